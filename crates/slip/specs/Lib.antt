@@ -1,0 +1,4 @@
+pub mod Numbers
+pub mod Trains
+pub mod Form
+pub mod Bytes

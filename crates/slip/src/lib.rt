@@ -1,0 +1,34 @@
+// Slips: what two ends of a block tell each other, when a slip is in form, and its ten bytes.
+mod bytes;
+mod fault;
+mod form;
+mod paper;
+mod track;
+
+pub use bytes::LENGTH;
+pub use bytes::read;
+pub use bytes::round_trips;
+pub use bytes::write;
+pub use fault::Fault;
+pub use fault::FaultDebug;
+pub use fault::FaultPartialEq;
+pub use form::check_form;
+pub use form::malformed;
+pub use paper::Message;
+pub use paper::MessageDebug;
+pub use paper::MessagePartialEq;
+pub use paper::Slip;
+pub use paper::SlipDebug;
+pub use paper::SlipKind;
+pub use paper::SlipKindDebug;
+pub use paper::SlipKindPartialEq;
+pub use paper::SlipPartialEq;
+pub use track::Class;
+pub use track::ClassDebug;
+pub use track::ClassPartialEq;
+pub use track::End;
+pub use track::EndDebug;
+pub use track::EndPartialEq;
+pub use track::Train;
+pub use track::TrainDebug;
+pub use track::TrainPartialEq;

@@ -1,0 +1,3 @@
+// Trials: examples that are run, beside what is proved.
+#[cfg(test)]
+mod wires;

@@ -1,0 +1,3 @@
+pub mod Sites
+pub mod Deliveries
+pub mod Calls

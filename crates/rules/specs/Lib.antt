@@ -1,0 +1,10 @@
+pub mod Numbers
+pub mod Lists
+pub mod Ends
+pub mod Moves
+pub mod Hearing
+pub mod Lines
+pub mod Runs
+pub mod Tally
+pub mod Safe
+pub mod Laws

@@ -1,0 +1,26 @@
+mod answers;
+mod calls;
+mod law;
+mod rows;
+
+pub use answers::Answer;
+pub use answers::Delivered;
+pub use answers::Ending;
+pub use answers::EndingPartialEq;
+pub use answers::Sent;
+pub use answers::SentPartialEq;
+pub use calls::Call;
+pub use law::always_safe;
+pub use law::rows_always;
+pub use rows::Heard;
+pub use rows::HeldRow;
+pub use rows::OwnRow;
+pub use rows::Permission;
+pub use rows::PermissionDebug;
+pub use rows::PermissionPartialEq;
+pub use rows::PromisedRow;
+pub use rows::RowState;
+pub use rows::RowStatePartialEq;
+pub use rows::Signal;
+pub use rows::SignalPartialEq;
+pub use rows::Word;

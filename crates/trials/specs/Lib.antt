@@ -1,0 +1,3 @@
+pub mod Plays
+pub mod Trials
+pub mod Shortcuts

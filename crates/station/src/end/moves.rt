@@ -145,7 +145,7 @@ impl Station {
         ensures done { λ r. ⌜ isOk r ≡ true ⌝ }
     {
         self.renew(held.row, RowState::In(held.permission));
-        self.signal = Signal::Stop;
+        self.signal = Signal::Stop; // behind the train
         Ok(Word {
             message: Message::Entered,
             serial: held.row.serial,

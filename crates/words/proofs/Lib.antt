@@ -1,0 +1,4 @@
+pub mod Parts
+pub mod Figures
+pub mod Back
+pub mod Only

@@ -1,4 +1,4 @@
-// Form A: the paper by which a train passes a signal at Stop, written, signed twice, and then presented or voided.
+// Form A, by which a train passes a signal at Stop: written, signed twice, and then presented or voided.
 ghost use mathlib.Core.Path.{_≡_};
 
 // What stands on a form: the block and end, and the serial and train of the row that is held there.
@@ -91,6 +91,8 @@ impl Drop for Signed {
 pub fn written_and_voided(paper: Paper) -> Paper
     ensures { λ r. ⌜ r ≡ paper ⌝ }
 {
-    let form = Written::write(paper).sign_as_conductor().sign_as_engineman();
+    let form = Written::write(paper)
+        .sign_as_conductor()
+        .sign_as_engineman();
     form.void()
 }

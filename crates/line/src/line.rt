@@ -5,9 +5,9 @@ use book::RuleBook;
 use station::Station;
 use wire::Wire;
 
+mod calls;
 mod delivery;
 mod ends;
-mod calls;
 mod opening;
 mod outcomes;
 mod sending;

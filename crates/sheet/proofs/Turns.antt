@@ -58,6 +58,7 @@ module _ {s : Setting} {m : Model} {input text rest : List ℕ} {number : ℕ} {
     where
       text-so : (a : Result Answer Fault) → r ≡ a → text ++ line-text (number + 1) n ≡ report-of (old .entries) ++ line-text (length (old .entries) + 1) (numbered a)
       text-so a e = λ i. old .reports i ++ line-text (old .numbers i + 1) ((same ∙ ap numbered e) i)
+
       go : (c : Result Call Fault) → call-at l m′ ≡ c → Turn s c m′ r m″ → Sofar s m input (text ++ line-text (number + 1) n) after (number + 1) m″
       go (Ok call) e q = record {
         entries = record { line = l; came = Ok (q .event) } ∷ old .entries;
@@ -126,7 +127,7 @@ from-made m input text m′ new d =
     let whole : Sheet-performed office new-line input text m′ = subst (λ (x : Model). Sheet-performed office x input text m′) new d in
     record {
       reports =
-        whole .reports ∙ sym (append-nil (report-of (whole .entries))) ∙ sym (replay new-line (whole .entries) m′ (whole .chain) []) ∙ ap (report-from 1 new-line) (whole .lines);
+          whole .reports ∙ sym (append-nil (report-of (whole .entries))) ∙ sym (replay new-line (whole .entries) m′ (whole .chain) []) ∙ ap (report-from 1 new-line) (whole .lines);
       entries = whole .entries;
       lines = whole .lines;
       told = whole .reports;

@@ -16,7 +16,11 @@ pub fn number_of(answer: Result<Answer, Fault>) -> Result<u32, Fault>
 }
 
 // What is printed of a line by its number and its answer.
-pub fn line_report(heap: Global, line: usize, answer: Result<u32, Fault>) -> Result<String, AllocError>
+pub fn line_report(
+    heap: Global,
+    line: usize,
+    answer: Result<u32, Fault>,
+) -> Result<String, AllocError>
     ensures { λ r. ⌜ made r (λ t. string-bytes t ≡ line-text line answer) ⌝ }
 {
     match answer {

@@ -62,7 +62,11 @@ fn by_delivered(answer: Result<Delivered, Fault>) -> Result<Answer, Fault>
 }
 
 // Writes a form, has it signed by both, and presents it.
-fn pass_by_form<'w, W: Wire, B: RuleBook>(line: &mut Line<'w, W, B>, block: u32, end: u32) -> Result<Answer, Fault>
+fn pass_by_form<'w, W: Wire, B: RuleBook>(
+    line: &mut Line<'w, W, B>,
+    block: u32,
+    end: u32,
+) -> Result<Answer, Fault>
     ensures { λ r. ⌜ Turn (setting limit admits picks loses) (presents (written-form block end (model waiting room (now (line .entry))))) (model waiting room (now (line .entry))) r (model waiting room (now (line .exit))) ⌝ }
 {
     let form = line.write_form(block, end)?;
@@ -70,17 +74,37 @@ fn pass_by_form<'w, W: Wire, B: RuleBook>(line: &mut Line<'w, W, B>, block: u32,
 }
 
 // Performs what a command asks for.
-fn perform<'w, W: Wire, B: RuleBook>(line: &mut Line<'w, W, B>, command: Command) -> Result<Answer, Fault>
+fn perform<'w, W: Wire, B: RuleBook>(
+    line: &mut Line<'w, W, B>,
+    command: Command,
+) -> Result<Answer, Fault>
     ensures { λ r. ⌜ Turn (setting limit admits picks loses) (call-of command (model waiting room (now (line .entry)))) (model waiting room (now (line .entry))) r (model waiting room (now (line .exit))) ⌝ }
 {
     match command {
-        Command::Ask { block, end, train, class } => by_serial(line.ask(block, u32::from(end.number()), train, class)),
+        Command::Ask {
+            block,
+            end,
+            train,
+            class,
+        } => by_serial(line.ask(block, u32::from(end.number()), train, class)),
         Command::Withdraw { block, end } => by_sent(line.withdraw(block, u32::from(end.number()))),
         Command::Show { block, end } => by_shown(line.show(block, u32::from(end.number()))),
-        Command::Enter { block, end, train } => by_sent(line.enter(block, u32::from(end.number()), train)),
+        Command::Enter { block, end, train } => by_sent(line.enter(
+            block,
+            u32::from(end.number()),
+            train,
+        )),
         Command::Form { block, end } => pass_by_form(line, block, u32::from(end.number())),
-        Command::Arrive { block, end, train } => by_sent(line.arrive(block, u32::from(end.number()), train)),
-        Command::Repeat { block, end, train } => by_repeated(line.repeat(block, u32::from(end.number()), train)),
+        Command::Arrive { block, end, train } => by_sent(line.arrive(
+            block,
+            u32::from(end.number()),
+            train,
+        )),
+        Command::Repeat { block, end, train } => by_repeated(line.repeat(
+            block,
+            u32::from(end.number()),
+            train,
+        )),
         Command::Deliver => by_delivered(line.deliver()),
         Command::Fade => {
             line.fade();
@@ -90,7 +114,10 @@ fn perform<'w, W: Wire, B: RuleBook>(line: &mut Line<'w, W, B>, command: Command
 }
 
 // Reads a line and performs its call.
-fn perform_line<'w, W: Wire, B: RuleBook>(line: &mut Line<'w, W, B>, text: &[u8]) -> Result<Answer, Fault>
+fn perform_line<'w, W: Wire, B: RuleBook>(
+    line: &mut Line<'w, W, B>,
+    text: &[u8],
+) -> Result<Answer, Fault>
     ensures { λ r. ⌜ Turn (setting limit admits picks loses) (call-at (now (text .entry)) (model waiting room (now (line .entry)))) (model waiting room (now (line .entry))) r (model waiting room (now (line .exit))) ⌝ }
 {
     let command = read_line(text)?;
@@ -98,7 +125,11 @@ fn perform_line<'w, W: Wire, B: RuleBook>(line: &mut Line<'w, W, B>, text: &[u8]
 }
 
 // Performs a sheet on a line, and makes its report.
-pub fn perform_sheet<'w, W: Wire, B: RuleBook>(heap: Global, line: &mut Line<'w, W, B>, input: &[u8]) -> Result<String, AllocError>
+pub fn perform_sheet<'w, W: Wire, B: RuleBook>(
+    heap: Global,
+    line: &mut Line<'w, W, B>,
+    input: &[u8],
+) -> Result<String, AllocError>
     ensures { λ r. ⌜ made r (λ s. Sheet-performed (setting limit admits picks loses) (model waiting room (now (line .entry))) (now (input .entry)) (string-bytes s) (model waiting room (now (line .exit)))) ⌝ }
 {
     let mut report = String::new(heap);

@@ -32,8 +32,9 @@ module _ {X : Type 0} (test : X → Bool) (xs : List X) (i : ℕ) (so : Sofar te
       within = omega arith;
       finds = so .finds ∙ at-i (find test) ∙ ap (λ (b : Bool). cond b (Some (getD xs i d)) (find test (drop (i + 1) xs))) e;
       leaves =
-        so .leaves ∙ ap (λ (ys : List X). take i xs ++ ys) (at-i (without-first test) ∙ ap (λ (b : Bool). cond b (drop (i + 1) xs) (getD xs i d ∷ without-first test (drop (i + 1) xs))) e)
-        ∙ sym (append-assoc (take i xs) (getD xs i d ∷ []) (without-first test (drop (i + 1) xs))) ∙ ap (λ (ys : List X). ys ++ without-first test (drop (i + 1) xs)) (sym (take-more xs i d more)) }
+          so .leaves ∙ ap (λ (ys : List X). take i xs ++ ys) (at-i (without-first test) ∙ ap (λ (b : Bool). cond b (drop (i + 1) xs) (getD xs i d ∷ without-first test (drop (i + 1) xs))) e)
+          ∙ sym (append-assoc (take i xs) (getD xs i d ∷ []) (without-first test (drop (i + 1) xs))) ∙ ap (λ (ys : List X). ys ++ without-first test (drop (i + 1) xs)) (sym (take-more xs i d more));
+    }
 
     -- the next passes
     pub found-next : test (getD xs i d) ≡ true → find test xs ≡ Some (getD xs i d)

@@ -124,7 +124,8 @@ impl<'w, W: Wire, B: RuleBook> Line<'w, W, B> {
         ensures ends { λ _. ⌜ ends-of (now (self .exit)) ≡ with-end (ends-of (now (self .entry))) block end (with-asking serial train class (at-end (ends-of (now (self .entry))) block end)) ⌝ }
         ensures wire { λ _. ⌜ now (self .exit) .wire ≡ now (self .entry) .wire ⌝ }
     {
-        self.ends[site_of(block, end)].note_asking(serial, train, class);
+        self.ends[site_of(block, end)]
+            .note_asking(serial, train, class);
     }
 
     // Has an end hear a slip.
@@ -133,6 +134,7 @@ impl<'w, W: Wire, B: RuleBook> Line<'w, W, B> {
         ensures value { λ r. ⌜ (r, ends-of (now (self .exit))) ≡ moved (hears (record { limit = limit; admits = admits }) serial message) (ends-of (now (self .entry))) block end ⌝ }
         ensures wire { λ _. ⌜ now (self .exit) .wire ≡ now (self .entry) .wire ⌝ }
     {
-        self.ends[site_of(block, end)].hear(&self.book, serial, message)
+        self.ends[site_of(block, end)]
+            .hear(&self.book, serial, message)
     }
 }

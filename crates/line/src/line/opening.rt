@@ -45,7 +45,8 @@ impl<'w, W: Wire, B: RuleBook> Line<'w, W, B> {
         ensures { λ r. ⌜ form-written r ≡ written-form block end (model waiting room (now (self .entry))) ⌝ }
     {
         let here = self.locate(block, end)?;
-        let held = self.held_at(block, here).ok_or(self.nothing_held(block, here))?;
+        let held = self.held_at(block, here)
+            .ok_or(self.nothing_held(block, here))?;
         Ok(Written::write(Paper {
             block,
             end: u32::from(here.number()),

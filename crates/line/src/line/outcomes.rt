@@ -18,7 +18,13 @@ use station::Move;
 use wire::Wire;
 
 impl<'w, W: Wire, B: RuleBook> Line<'w, W, B> {
-    pub(super) fn asked(&mut self, block: u32, end: u32, train: u32, class: char) -> Result<u32, Fault>
+    pub(super) fn asked(
+        &mut self,
+        block: u32,
+        end: u32,
+        train: u32,
+        class: char,
+    ) -> Result<u32, Fault>
         ensures value { λ r. ⌜ (as-answer serial-answer r, model waiting room (now (self .exit))) ≡ result-of (ask-outcome block end train class (model waiting room (now (self .entry)))) ⌝ }
         ensures refused { λ r. ⌜ (isOk r ≡ false → now (now (self .exit) .wire) ≡ now (now (self .entry) .wire)) ⌝ }
         ensures lender { λ _. ⌜ name (now (self .exit) .wire) ≡ name (now (self .entry) .wire) ⌝ }

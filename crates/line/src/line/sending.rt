@@ -19,8 +19,8 @@ use slip::Class;
 use slip::End;
 use slip::Fault;
 use slip::Message;
-use slip::SlipKind;
 use slip::Slip;
+use slip::SlipKind;
 use slip::Train;
 use station::Move;
 use wire::Wire;
@@ -52,7 +52,13 @@ impl<'w, W: Wire, B: RuleBook> Line<'w, W, B> {
     }
 
     // Asks at an end: the row is noted only if the wire takes the slip.
-    pub(super) fn ask_at(&mut self, block: u32, end: End, train: Train, class: Class) -> Result<u32, Fault>
+    pub(super) fn ask_at(
+        &mut self,
+        block: u32,
+        end: End,
+        train: Train,
+        class: Class,
+    ) -> Result<u32, Fault>
         requires { ⌜ block < 15 ⌝ ∗ ⌜ site block end < vec-len (now self .ends) ⌝ }
         ensures value { λ r. ⌜ (as-answer serial-answer r, model waiting room (now (self .exit))) ≡ result-of (then (model waiting room (now (self .entry))) (next-serial (site block end) train (at-end (ends-of (now (self .entry))) block end)) (asks (model waiting room (now (self .entry))) block end train class)) ⌝ }
         ensures refused { λ r. ⌜ (isOk r ≡ false → now (now (self .exit) .wire) ≡ now (now (self .entry) .wire)) ⌝ }
@@ -60,13 +66,19 @@ impl<'w, W: Wire, B: RuleBook> Line<'w, W, B> {
     {
         let serial = self.serial_at(block, end, train)?;
         let message = Message::Wanted { train, class };
-        self.wire.put(slip_of(block, end, Word { message, serial }))?;
+        let slip = slip_of(block, end, Word { message, serial });
+        self.wire.put(slip)?;
         self.note_at(block, end, serial, train, class);
         Ok(serial)
     }
 
     // Says again what an end's row stands for, if the wire takes the slip.
-    pub(super) fn say_again_at(&mut self, block: u32, end: End, train: Train) -> Result<SlipKind, Fault>
+    pub(super) fn say_again_at(
+        &mut self,
+        block: u32,
+        end: End,
+        train: Train,
+    ) -> Result<SlipKind, Fault>
         requires { ⌜ block < 15 ⌝ ∗ ⌜ site block end < vec-len (now self .ends) ⌝ }
         ensures value { λ r. ⌜ (as-answer repeated-answer r, model waiting room (now (self .exit))) ≡ result-of (then (model waiting room (now (self .entry))) (repeated (site block end) train (at-end (ends-of (now (self .entry))) block end)) (says-again (model waiting room (now (self .entry))) block end)) ⌝ }
         ensures refused { λ r. ⌜ (isOk r ≡ false → now (now (self .exit) .wire) ≡ now (now (self .entry) .wire)) ⌝ }

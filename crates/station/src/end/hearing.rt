@@ -68,14 +68,26 @@ impl Station {
         if self.own.is_empty() && ahead == 0 {
             return self.promise(serial, train, class, Permission::Clear);
         }
-        if self.own.is_empty() && book.admit(class.letter() as char, ahead as u32, self.passengers_ahead()) {
+        if self.own.is_empty()
+            && book.admit(
+                class.letter() as char,
+                ahead as u32,
+                self.passengers_ahead(),
+            )
+        {
             return self.promise(serial, train, class, Permission::Permissive);
         }
         self.heard = serial;
         Heard::Reply(Message::NotClear)
     }
 
-    fn hear_wanted<B: RuleBook>(&mut self, book: &B, serial: u32, train: Train, class: Class) -> Heard
+    fn hear_wanted<B: RuleBook>(
+        &mut self,
+        book: &B,
+        serial: u32,
+        train: Train,
+        class: Class,
+    ) -> Heard
         ensures { λ r. ⌜ (r, kept (now (self .exit))) ≡ wanted-of (record { limit = limit; admits = admits }) serial train class (kept (now (self .entry))) (find (promise-of serial) (kept (now (self .entry)) .promised)) ⌝ }
     {
         if let Some(i) = self.place_promised(serial) {

@@ -19,6 +19,7 @@ returns g c =
     let wire = h .ensures .wire in
     record {
       value =
-        handed b (mo (c .args .self .now)) (c .args .slip) (sym (c .if-not-has-block .ensures tt .value)) (h .result) (ends-of (h .last .self)) (c .reply .result) (mo (c .reply .last .self)) (mo (h .last .self))
-        (h .ensures .value) (λ i. record { ends = ends-of (h .last .self); waiting = g .W·Wire .waiting (now (wire i)); room = g .W·Wire .room (now (wire i)) }) (c .reply .ensures .value);
-      lender = c .reply .ensures .lender ∙ ap name wire }
+          handed b (mo (c .args .self .now)) (c .args .slip) (sym (c .if-not-has-block .ensures tt .value)) (h .result) (ends-of (h .last .self)) (c .reply .result) (mo (c .reply .last .self)) (mo (h .last .self))
+          (h .ensures .value) (λ i. record { ends = ends-of (h .last .self); waiting = g .W·Wire .waiting (now (wire i)); room = g .W·Wire .room (now (wire i)) }) (c .reply .ensures .value);
+      lender = c .reply .ensures .lender ∙ ap name wire;
+    }

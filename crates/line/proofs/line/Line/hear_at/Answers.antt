@@ -16,4 +16,5 @@ returns g c =
     let y = c .hear .last .self in
     record {
       value = move-there xs (c .site-of .result) (c .args .block) (c .args .end) x (c .site-of .ensures) inside (c .index-mut .ensures .value) (λ n. hears (record { limit = g .B·RuleBook .limit; admits = g .B·RuleBook .admits }) (c .args .serial) (c .args .message)) y (c .hear .result) (c .hear .ensures);
-      wire = refl }
+      wire = refl;
+    }

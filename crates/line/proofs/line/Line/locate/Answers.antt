@@ -24,4 +24,5 @@ returns g c =
     let there = c .if-not-has-block .ensures tt in
     record {
       value = c .known-end .ensures ∙ sym (located-at (blocks (map kept (vec-items v))) (c .args .block) (c .args .end) (sym (there .value)));
-      within = ends-inside (c .args .block) (vec-len v) (c .known-end .result) (there .within refl) }
+      within = ends-inside (c .args .block) (vec-len v) (c .known-end .result) (there .within refl);
+    }

@@ -17,4 +17,5 @@ returns g c =
     record {
       value = move-there xs (c .site-of-at .result) (c .args .block) (c .args .end) x (c .site-of-at .ensures) inside (c .index-mut .ensures .value) (λ n. made-move n (c .args .mv)) y (c .make .result) (c .make .ensures .value);
       refused = λ e. stay-there xs (c .site-of-at .result) (c .args .block) (c .args .end) x (c .site-of-at .ensures) inside (c .index-mut .ensures .value) y (c .make .ensures .refused e);
-      wire = refl }
+      wire = refl;
+    }

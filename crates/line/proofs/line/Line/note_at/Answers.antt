@@ -23,4 +23,5 @@ returns g c =
     let done = ap (λ (p : Bool × Kept). p .1) (c .note-asking .ensures ∙ cond-true _ _ _ (lt-ltb (length (kept x .own)) 4 few)) in
     record {
       ends = set-there xs (c .site-of .result) (c .args .block) (c .args .end) x (c .site-of .ensures) inside (c .index-mut .ensures .value) _ (c .note-asking .last .self) (done ∙ ap (with-asking (c .args .serial) (c .args .train) (c .args .class)) (sym k));
-      wire = refl }
+      wire = refl;
+    }

@@ -17,4 +17,5 @@ returns g c =
     record {
       value = move-there xs (c .site-of-at .result) (c .args .block) (c .args .end) x (c .site-of-at .ensures) inside (c .index-mut .ensures .value) (shown) y (c .show .result) (c .show .ensures .value);
       refused = λ e. stay-there xs (c .site-of-at .result) (c .args .block) (c .args .end) x (c .site-of-at .ensures) inside (c .index-mut .ensures .value) y (c .show .ensures .refused e);
-      wire = refl }
+      wire = refl;
+    }

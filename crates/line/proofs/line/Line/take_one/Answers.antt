@@ -17,10 +17,14 @@ pub returns-in-rest : need.returns-in-rest
 returns-in-rest g c =
     let same = c .in-rest .ensures tt .refused refl in
     record {
-      value = (record { taken = None; left = g .W·Wire .waiting (c .take .last .self) }, c .in-rest .ensures tt .picked,
-        λ i. (Err (c .silent .ensures i), record { ends = ends-of (c .args .self .now); waiting = g .W·Wire .waiting (same i); room = g .W·Wire .room (same i) }));
+      value = (
+        record { taken = None; left = g .W·Wire .waiting (c .take .last .self) },
+        c .in-rest .ensures tt .picked,
+        λ i. (Err (c .silent .ensures i), record { ends = ends-of (c .args .self .now); waiting = g .W·Wire .waiting (same i); room = g .W·Wire .room (same i) }),
+      );
       refused = λ _. same;
-      lender = refl }
+      lender = refl;
+    }
 
 -- a slip was taken: the line goes on from what the wire left
 pub returns : need.returns
@@ -31,9 +35,13 @@ returns g c =
     let h = c .hand-over-ending in
     let s = c .in-Some .slip in
     record {
-      value = (record { taken = Some s; left = left }, c .in-Some .ensures tt .picked,
+      value = (
+        record { taken = Some s; left = left },
+        c .in-Some .ensures tt .picked,
         ap (λ (k : SlipKind). (Ok (Answer.Delivered (record { kind = k; ending = h .result })), mo (h .last .self))) (c .kind .ensures)
-        ∙ h .ensures .value
-        ∙ ap (λ (n : ℕ). result-of (deliver-outcome b (record { ends = ends-of (c .args .self .now); waiting = left; room = n }) left (Some s))) (c .take .ensures .size));
+            ∙ h .ensures .value
+            ∙ ap (λ (n : ℕ). result-of (deliver-outcome b (record { ends = ends-of (c .args .self .now); waiting = left; room = n }) left (Some s))) (c .take .ensures .size),
+      );
       refused = λ e. absurd (false≢true (sym e));
-      lender = h .ensures .lender }
+      lender = h .ensures .lender;
+    }

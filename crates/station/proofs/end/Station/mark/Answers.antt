@@ -17,9 +17,14 @@ pub loop-i-again : need.loop-i-again
 loop-i-again c =
     let s = c .args .self .now in
     let l = c .loop-i in
-    let i = l .inv in
-    (ap (set (vec-items (l .self .promised)) (l .i)) (c .mark-of .ensures) ∙ map-over-more (marked (c .args .serial)) (vec-items (s .promised)) (vec-items (l .self .promised)) (l .i) (c .index .result .now) (omega (arith, s .promised .ok .0)) (i .0) (c .index .ensures),
-     i .1, i .2, i .3, i .4, i .5)
+    let i = l .inv in (
+      ap (set (vec-items (l .self .promised)) (l .i)) (c .mark-of .ensures) ∙ map-over-more (marked (c .args .serial)) (vec-items (s .promised)) (vec-items (l .self .promised)) (l .i) (c .index .result .now) (omega (arith, s .promised .ok .0)) (i .0) (c .index .ensures),
+      i .1,
+      i .2,
+      i .3,
+      i .4,
+      i .5,
+    )
 
 -- all rows are marked
 all-marked : (f : PromisedRow → PromisedRow) (xs : List PromisedRow) (i : ℕ) → length xs ≤ i → map f (take i xs) ++ drop i xs ≡ map f xs

@@ -12,8 +12,9 @@ loop-row-again c =
     let l = c .loop-row in
     let rows = c .as-slice-rows .result .now in
     elim (c .if-carries-passengers .came) [
-      then-carries-passengers w ↦ (let e = count-more counted rows (l .row-index) (l .n) _ true (c .loop-row-test .taken) (sym (w .if-carries-passengers .ensures tt)) in (omega arith, omega arith, omega arith))
-    | else-carries-passengers w ↦ (let e = count-more counted rows (l .row-index) (l .n) _ false (c .loop-row-test .taken) (sym (w .if-carries-passengers .ensures tt)) in (omega arith, omega arith, omega arith)) ]
+      | then-carries-passengers w ↦ (let e = count-more counted rows (l .row-index) (l .n) _ true (c .loop-row-test .taken) (sym (w .if-carries-passengers .ensures tt)) in (omega arith, omega arith, omega arith))
+      | else-carries-passengers w ↦ (let e = count-more counted rows (l .row-index) (l .n) _ false (c .loop-row-test .taken) (sym (w .if-carries-passengers .ensures tt)) in (omega arith, omega arith, omega arith))
+    ]
 
 pub returns : need.returns
 returns c =

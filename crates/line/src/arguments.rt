@@ -11,7 +11,7 @@ use slip::Slip;
 use slip::Train;
 
 // The argument at this position is unknown.
-pub fn unknown(position: u32) -> Fault
+pub(crate) fn unknown(position: u32) -> Fault
     ensures { λ r. ⌜ r ≡ bad-argument position ⌝ }
 {
     Fault {
@@ -21,7 +21,7 @@ pub fn unknown(position: u32) -> Fault
     }
 }
 
-pub fn known_end(position: u32, number: u32) -> Result<End, Fault>
+pub(crate) fn known_end(position: u32, number: u32) -> Result<End, Fault>
     ensures { λ r. ⌜ r ≡ given-or position (end-of number) ⌝ }
 {
     match number {
@@ -31,7 +31,7 @@ pub fn known_end(position: u32, number: u32) -> Result<End, Fault>
     }
 }
 
-pub fn known_train(position: u32, number: u32) -> Result<Train, Fault>
+pub(crate) fn known_train(position: u32, number: u32) -> Result<Train, Fault>
     ensures { λ r. ⌜ r ≡ train-at position number ⌝ }
 {
     if 1 <= number && number <= 9999 {
@@ -43,14 +43,14 @@ pub fn known_train(position: u32, number: u32) -> Result<Train, Fault>
     }
 }
 
-pub fn known_class(position: u32, letter: char) -> Result<Class, Fault>
+pub(crate) fn known_class(position: u32, letter: char) -> Result<Class, Fault>
     ensures { λ r. ⌜ r ≡ class-at position letter ⌝ }
 {
     Class::from_letter(letter).ok_or(unknown(position))
 }
 
 // The slip by which an end of a block says a word to the other.
-pub fn slip_of(block: u32, end: End, word: Word) -> Slip
+pub(crate) fn slip_of(block: u32, end: End, word: Word) -> Slip
     requires { ⌜ block < 15 ⌝ }
     ensures { λ r. ⌜ r ≡ slip-from block end word ⌝ }
 {

@@ -7,7 +7,7 @@ use Rattle.rules.specs.Moves.{word}
 use Rattle.rules.specs.Runs.{Event, Made-silent, Run}
 use Rattle.rules.specs.Tally.{Entry, empty, tally}
 use Rattle.rules.specs.declared.calls.Call.{Call}
-use Rattle.slip.specs.Bytes.{encode}
+use Rattle.slip.specs.Bytes.{encode, worked-slip}
 use Rattle.slip.specs.declared.fault.Fault.{Fault}
 use Rattle.slip.specs.declared.paper.Message.{Message}
 use Rattle.slip.specs.declared.paper.Slip.{Slip}
@@ -15,6 +15,7 @@ use Rattle.slip.specs.declared.track.Class.{Class}
 use Rattle.slip.specs.declared.track.End.the-variants.{East, West}
 use Rattle.std.specs.declared.result.Result.{Result}
 use Rattle.std.specs.declared.result.Result.the-variants.{Err, Ok}
+use Rattle.telegraph.specs.Ring.{room-of}
 use Rattle.trials.specs.Plays.{Played, Turn, answers, by-rule, in-turn, play, two-blocks}
 use Rattle.wire.specs.Waiting.{full-wire}
 use lib.ListN.{length}
@@ -93,10 +94,6 @@ asks-behind train class = ask 0 train class ∷ deliver ∷ deliver ∷ []
 abbrev pub refused : ℕ → List (Result ℕ Fault)
 refused serial = Ok serial ∷ Ok 12 ∷ Ok 41 ∷ []
 
--- WANTED, block 0, to its east end, freight train 12, serial 1
-abbrev pub worked-slip : Slip
-worked-slip = slip-from 0 West (word (Message.Wanted (record { number = 12 }) Class.Freight) 1)
-
 pub record Trials : Type 0 where
   pub train-9999 : heard-on (ask 0 9999 F ∷ []) ≡ Ok 1 ∷ []
   pub train-10000 : heard-on (ask 0 10000 F ∷ []) ≡ Err (bad-argument 3) ∷ []
@@ -115,8 +112,10 @@ pub record Trials : Type 0 where
   pub entered-late-out : last-puts (day (through 1 F ++ (repeat 0 1 ∷ arrive 1 1 ∷ deliver ∷ [])) .events) ≡ slip-from 0 East (word Message.Out 1) ∷ []
   pub slip-put : last-puts (day (ask 0 12 F ∷ []) .events) ≡ worked-slip ∷ []
   pub slip-bytes : encode worked-slip ≡ 1 ∷ 0 ∷ 1 ∷ 70 ∷ 0 ∷ 12 ∷ 0 ∷ 0 ∷ 0 ∷ 1 ∷ []
-  pub no-room : answers (play (by-rule class-book) (two-blocks 0 0) (ask 0 1 F ∷ []) .events) ≡ Err (full-wire 0) ∷ []
-  pub room-for-one : answers (play (by-rule class-book) (two-blocks 1 0) (ask 0 1 F ∷ repeat 0 1 ∷ withdraw 0 ∷ []) .events) ≡ Ok 1 ∷ Err (full-wire 1) ∷ Ok 0 ∷ []
+  -- over a telegraph of 9 bytes, and of 10
+  pub rooms : (room-of 9 ≡ 0) × (room-of 10 ≡ 1)
+  pub no-room : answers (play (by-rule class-book) (two-blocks (room-of 9) 0) (ask 0 1 F ∷ []) .events) ≡ Err (full-wire 0) ∷ []
+  pub room-for-one : answers (play (by-rule class-book) (two-blocks (room-of 10) 0) (ask 0 1 F ∷ repeat 0 1 ∷ withdraw 0 ∷ []) .events) ≡ Ok 1 ∷ Err (full-wire 1) ∷ Ok 0 ∷ []
   pub last-serial : answers (play (by-rule class-book) (two-blocks 64 4294967294) (ask 0 1 F ∷ withdraw 0 ∷ deliver ∷ deliver ∷ deliver ∷ deliver ∷ ask 0 1 F ∷ []) .events) ≡
       Ok 4294967295 ∷ Ok 1 ∷ Ok 12 ∷ Ok 72 ∷ Ok 20 ∷ Ok 81 ∷ Err (station-fault 6 0) ∷ []
   -- a form copies the Held row, and lets its train in under a signal at Stop

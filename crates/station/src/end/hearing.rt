@@ -1,7 +1,7 @@
 // What an end does on a slip that it hears: the newest row's state and the slip together decide.
 ghost use Prim.Native.Nat.{_<_};
 ghost use Rattle.rules.specs.Ends.{with-promised};
-ghost use Rattle.rules.specs.Hearing.{against-own, giving, hears, marked, out-of, promising, reported-of, wanted-of, withdraw-heard};
+ghost use Rattle.rules.specs.Hearing.{admitted, against-own, giving, hears, marked, out-of, promising, reported-of, wanted-of, withdraw-heard};
 ghost use Rattle.rules.specs.Ends.{own-in, promise-of};
 ghost use Rattle.rules.specs.Lists.{find, newest};
 ghost use Rattle.station.specs.Records.{kept};
@@ -60,21 +60,27 @@ impl Station {
         Heard::Reply(given(permission))
     }
 
+    // Whether the book lets a train in behind the promised ones; at its limit the block is full, and it need not be asked.
+    fn may_follow<B: RuleBook>(&self, book: &B, class: Class) -> bool
+        ensures value { λ r. ⌜ r ≡ admitted (record { limit = limit; admits = admits }) class (kept (now (self .entry)) .promised) ⌝ }
+        ensures space { λ r. ⌜ (r ≡ true → vec-len (now (self .entry) .promised) < 4) ⌝ }
+    {
+        let ahead = self.promised.len();
+        if ahead >= B::most() as usize {
+            return false;
+        }
+        let passengers = self.passengers_ahead();
+        book.admit(class.letter() as char, ahead as u32, passengers)
+    }
+
     // A WANTED that was not heard before.
     fn hear_new<B: RuleBook>(&mut self, book: &B, serial: u32, train: Train, class: Class) -> Heard
         ensures { λ r. ⌜ (r, kept (now (self .exit))) ≡ against-own (record { limit = limit; admits = admits }) serial train class (kept (now (self .entry))) (kept (now (self .entry)) .own) ⌝ }
     {
-        let ahead = self.promised.len();
-        if self.own.is_empty() && ahead == 0 {
+        if self.own.is_empty() && self.promised.is_empty() {
             return self.promise(serial, train, class, Permission::Clear);
         }
-        if self.own.is_empty()
-            && book.admit(
-                class.letter() as char,
-                ahead as u32,
-                self.passengers_ahead(),
-            )
-        {
+        if self.own.is_empty() && self.may_follow(book, class) {
             return self.promise(serial, train, class, Permission::Permissive);
         }
         self.heard = serial;

@@ -17,6 +17,7 @@ returns c = record {
   entered-late-out = refl;
   slip-put = refl;
   slip-bytes = refl;
+  rooms = (refl, refl);
   no-room = refl;
   room-for-one = refl;
   last-serial = refl;

@@ -73,8 +73,7 @@ impl Signed {
     pub fn void(self) -> Paper
         ensures { λ r. ⌜ r ≡ self .paper ⌝ }
     {
-        let Signed { paper } = self;
-        paper
+        self.hand_in()
     }
 }
 

@@ -1,4 +1,6 @@
 // The block box's program: a sheet on standard input, its report on standard output.
+#![tactic(auto)]
+
 use sheet::report_sheet;
 use std::io;
 use std::io::Read;

@@ -1,4 +1,6 @@
 // Rule books: whether a train may follow others into a block.
+#![tactic(auto)]
+
 ghost use Rattle.std.specs.Prelude.{◌≡◌, ℕ};
 ghost use Rattle.book.specs.Books.{Admits, BookLaws, class_admits, may_follow_lem, never_admits};
 ghost use Rattle.std.proofs.Common.{rules};

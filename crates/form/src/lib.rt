@@ -1,4 +1,6 @@
 // Form A, by which a train passes a signal at Stop: written, signed twice, and then presented or voided.
+#![tactic(auto)]
+
 ghost use Rattle.std.specs.Prelude.{◌≡◌};
 
 // What stands on a form: the block and end, and the serial and train of the row that is held there.

@@ -1,4 +1,6 @@
 // What a lineman writes and reads of slips: hexadecimal digits in, plain words out.
+#![tactic(auto)]
+
 mod hex;
 mod tell;
 

@@ -1,4 +1,6 @@
 // The lines of an input: parts of lent bytes, each ended by a line feed, which the last may lack.
+#![tactic(auto)]
+
 ghost use Rattle.std.specs.Prelude.{◌≡◌, ◌<◌, ◌≤◌, true, [], ◌∷◌, length, is_some, IfSome, MatchOption};
 ghost use Rattle.lines.specs.Cuts.{span};
 ghost use Rattle.lines.specs.Lines.{lines_of, next_line_lem, rest_of};

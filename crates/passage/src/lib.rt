@@ -1,4 +1,6 @@
 // Slips sent over a wire and taken from it again, and what a lineman is told of both.
+#![tactic(auto)]
+
 mod post;
 mod receive;
 mod trial;

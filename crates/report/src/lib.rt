@@ -1,4 +1,6 @@
 // The lines of a report: what is printed of each line of a sheet.
+#![tactic(auto)]
+
 mod entry;
 mod figures;
 

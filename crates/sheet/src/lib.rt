@@ -1,4 +1,6 @@
 // A sheet: its lines performed one by one, and the report.
+#![tactic(auto)]
+
 mod report;
 mod run;
 

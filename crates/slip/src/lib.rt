@@ -1,4 +1,6 @@
 // Slips: what two ends of a block tell each other, when a slip is in form, and its ten bytes.
+#![tactic(auto)]
+
 mod bytes;
 mod fault;
 mod form;

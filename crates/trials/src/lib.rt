@@ -1,4 +1,6 @@
 // Worked trials: these functions do nothing, and their contracts state what the definitions come to.
+#![tactic(auto)]
+
 ghost use Rattle.trials.specs.Plays.{PlaysAreRuns, PlaysInTurn};
 ghost use Rattle.trials.specs.Shortcuts.{Shortcuts};
 ghost use Rattle.trials.specs.Trials.{Sheet, Trials};

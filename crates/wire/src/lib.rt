@@ -1,4 +1,6 @@
 // What a wire means: telegraph and radio stand behind this one interface.
+#![tactic(auto)]
+
 ghost use Rattle.std.specs.Prelude.{◌≡◌, ℕ, true, false, List, is_some, is_ok, Option as Maybe};
 ghost use Rattle.slip.specs.declared.paper.Slip.{Slip as Paper};
 ghost use Rattle.wire.specs.Waiting.{Formed, LawfulLoses, LawfulPicks, full_wire, put_after, put_answer};

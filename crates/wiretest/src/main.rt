@@ -1,4 +1,6 @@
 // The lineman's test: slips from standard input, over a telegraph and over a radio.
+#![tactic(auto)]
+
 mod hex;
 mod passage;
 mod tell;

@@ -1,4 +1,6 @@
 // A line of a sheet: cut into words that borrow its bytes, and read as a call.
+#![tactic(auto)]
+
 mod command;
 mod cut;
 mod read;

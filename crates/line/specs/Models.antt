@@ -3,6 +3,7 @@ use Rattle.std.specs.Prelude.{ℕ, List, map, Ok, Err, vec_items, Result}
 use Rattle.form.specs.declared.Written.{Written}
 use Rattle.line.specs.declared.line.Line.{Line}
 use Rattle.book.specs.Books.{Admits}
+use Rattle.book.specs.declared.RuleBook.{Ghosts as BookGhosts}
 use Rattle.rules.specs.Ends.{Kept}
 use Rattle.rules.specs.Lines.{Form, Model, Outcome, at_end, with_end}
 use Rattle.rules.specs.Runs.{Setting}
@@ -16,13 +17,14 @@ use Rattle.slip.specs.declared.paper.SlipKind.{SlipKind}
 use Rattle.slip.specs.declared.track.End.{End}
 use Rattle.station.specs.Records.{kept}
 use Rattle.wire.specs.Waiting.{Loses, Picks}
+use Rattle.wire.specs.declared.Wire.{Ghosts as WireGhosts}
 
 -- what its ends keep
-abbrev pub ends_of : {W B : Type 0} → Line W B → List Kept
+abbrev pub ends_of : {W B : Type 0} {w : WireGhosts W} {b : BookGhosts B} → Line W B w b → List Kept
 ends_of l = map kept (vec_items l.ends)
 
 -- its ends, and what waits on a wire of this meaning
-abbrev pub model : {W B : Type 0} → (W → List Slip) → (W → ℕ) → Line W B → Model
+abbrev pub model : {W B : Type 0} {w : WireGhosts W} {b : BookGhosts B} → (W → List Slip) → (W → ℕ) → Line W B w b → Model
 model waiting room l = record { ends = ends_of l; waiting = waiting l.wire.now; room = room l.wire.now }
 
 -- what a call answers, as one of the answers

@@ -12,9 +12,9 @@ use wire::Wire;
 
 // Puts the slip that a line says.
 fn post<W: Wire>(wire: &mut W, line: &[u8]) -> Result<Slip, Fault>
-    ensures answer { result ≡ posted line.now (waiting wire.old) (room wire.old) }
-    ensures after { waiting wire.new ≡ waiting wire.old ++ put_by result }
-    ensures size { room wire.new ≡ room wire.old }
+    ensures answer { result ≡ posted line.now (W.waiting wire.old) (W.room wire.old) }
+    ensures after { W.waiting wire.new ≡ W.waiting wire.old ++ put_by result }
+    ensures size { W.room wire.new ≡ W.room wire.old }
     ensures refused { is_ok result ≡ false → wire.new ≡ wire.old }
 {
     let slip = slip_on(line)?;
@@ -46,10 +46,10 @@ pub(crate) fn post_all<W: Wire>(
     input: &[u8],
     report: &mut String,
 ) -> Result<Posted, AllocError>
-    ensures sent { IfOk result (λ p. p.sent.items ≡ slips_put (room wire.old) (waiting wire.old) (lines_of input.now)) }
-    ensures waits { IfOk result (λ p. waiting wire.new ≡ waiting wire.old ++ p.sent.items) }
+    ensures sent { IfOk result (λ p. p.sent.items ≡ slips_put (W.room wire.old) (W.waiting wire.old) (lines_of input.now)) }
+    ensures waits { IfOk result (λ p. W.waiting wire.new ≡ W.waiting wire.old ++ p.sent.items) }
     ensures lines { IfOk result (λ p. p.lines ≡ length (lines_of input.now)) }
-    ensures told { IfOk result (λ p. string_bytes report.new ≡ lines_told (room wire.old) (string_bytes report.old) 1 (waiting wire.old) (lines_of input.now)) }
+    ensures told { IfOk result (λ p. string_bytes report.new ≡ lines_told (W.room wire.old) (string_bytes report.old) 1 (W.waiting wire.old) (lines_of input.now)) }
 {
     let mut sent = Vec::new(heap);
     let mut number = 0usize;

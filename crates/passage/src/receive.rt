@@ -63,7 +63,7 @@ pub(crate) fn take_all<W: Wire>(
     most: usize,
     report: &mut String,
 ) -> Result<Vec<Slip>, AllocError>
-    ensures { IfOk result (λ came. TakenAll picks most (waiting wire.old) (string_bytes report.old) came.items (waiting wire.new) (string_bytes report.new)) }
+    ensures { IfOk result (λ came. TakenAll W.picks most (W.waiting wire.old) (string_bytes report.old) came.items (W.waiting wire.new) (string_bytes report.new)) }
 {
     let mut came = Vec::new(heap);
     for _ in 0..most {

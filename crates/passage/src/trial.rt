@@ -43,7 +43,7 @@ pub fn try_wire<W: Wire>(
     most: usize,
     input: &[u8],
 ) -> Result<String, AllocError>
-    ensures { IfOk result (λ s. Tried picks (room wire.old) most name.now (lines_of input.now) (waiting wire.old) (waiting wire.new) (string_bytes s)) }
+    ensures { IfOk result (λ s. Tried W.picks (W.room wire.old) most name.now (lines_of input.now) (W.waiting wire.old) (W.waiting wire.new) (string_bytes s)) }
 {
     let mut report = format!(in heap; "{name}\n")?;
     let posted = post_all(heap, wire, input, &mut report)?;

@@ -55,7 +55,7 @@ fn pass_by_form<'w, W: Wire, B: RuleBook>(
     block: u32,
     end: u32,
 ) -> Result<Answer, Fault>
-    ensures { Turn (setting limit admits picks loses) (presents (written_form block end (model waiting room line.old))) (model waiting room line.old) result (model waiting room line.new) }
+    ensures { Turn (setting B.limit B.admits W.picks W.loses) (presents (written_form block end (model W.waiting W.room line.old))) (model W.waiting W.room line.old) result (model W.waiting W.room line.new) }
 {
     let form = line.write_form(block, end)?;
     by_sent(line.present(form.sign_as_conductor().sign_as_engineman()))
@@ -66,7 +66,7 @@ fn perform<'w, W: Wire, B: RuleBook>(
     line: &mut Line<'w, W, B>,
     command: Command,
 ) -> Result<Answer, Fault>
-    ensures { Turn (setting limit admits picks loses) (call_of command (model waiting room line.old)) (model waiting room line.old) result (model waiting room line.new) }
+    ensures { Turn (setting B.limit B.admits W.picks W.loses) (call_of command (model W.waiting W.room line.old)) (model W.waiting W.room line.old) result (model W.waiting W.room line.new) }
 {
     match command {
         Command::Ask {
@@ -106,7 +106,7 @@ fn perform_line<'w, W: Wire, B: RuleBook>(
     line: &mut Line<'w, W, B>,
     text: &[u8],
 ) -> Result<Answer, Fault>
-    ensures { Turn (setting limit admits picks loses) (call_at text.now (model waiting room line.old)) (model waiting room line.old) result (model waiting room line.new) }
+    ensures { Turn (setting B.limit B.admits W.picks W.loses) (call_at text.now (model W.waiting W.room line.old)) (model W.waiting W.room line.old) result (model W.waiting W.room line.new) }
 {
     let command = read_line(text)?;
     perform(line, command)
@@ -118,7 +118,7 @@ pub fn perform_sheet<'w, W: Wire, B: RuleBook>(
     line: &mut Line<'w, W, B>,
     input: &[u8],
 ) -> Result<String, AllocError>
-    ensures { IfOk result (λ s. SheetPerformed (setting limit admits picks loses) (model waiting room line.old) input.now (string_bytes s) (model waiting room line.new)) }
+    ensures { IfOk result (λ s. SheetPerformed (setting B.limit B.admits W.picks W.loses) (model W.waiting W.room line.old) input.now (string_bytes s) (model W.waiting W.room line.new)) }
 {
     let mut report = String::new(heap);
     let mut lines = Lines::new(&input[0..input.len().min(COUNTED)]);

@@ -14,9 +14,9 @@ use wire::Wire;
 
 // Puts the slip that a line says.
 fn post<W: Wire>(wire: &mut W, line: &[u8]) -> Result<Slip, Fault>
-    ensures answer { result ≡ posted line.now (waiting wire.old) (room wire.old) }
-    ensures after { waiting wire.new ≡ waiting wire.old ++ option_to_list (result_ok result) }
-    ensures size { room wire.new ≡ room wire.old }
+    ensures answer { result ≡ posted line.now (W.waiting wire.old) (W.room wire.old) }
+    ensures after { W.waiting wire.new ≡ W.waiting wire.old ++ option_to_list (result_ok result) }
+    ensures size { W.room wire.new ≡ W.room wire.old }
     ensures refused { is_ok result ≡ false → wire.new ≡ wire.old }
 {
     let slip = slip_on(line)?;
@@ -38,7 +38,7 @@ fn post_all<W: Wire>(
     input: &[u8],
     report: &mut String,
 ) -> Result<Posted, AllocError>
-    ensures waits { IfOk result (λ p. waiting wire.new ≡ waiting wire.old ++ p.sent.items) }
+    ensures waits { IfOk result (λ p. W.waiting wire.new ≡ W.waiting wire.old ++ p.sent.items) }
     ensures lines { IfOk result (λ p. vec_len p.sent + p.refused ≡ length (lines_of input.now)) }
 {
     let mut sent = Vec::new(heap);
@@ -71,7 +71,7 @@ fn take_all<W: Wire>(
     sent: &[Slip],
     report: &mut String,
 ) -> Result<Received, AllocError>
-    ensures emptied { IfOk result (λ t. (t.taken < most → waiting wire.new ≡ [])) }
+    ensures emptied { IfOk result (λ t. (t.taken < most → W.waiting wire.new ≡ [])) }
     ensures few { IfOk result (λ t. t.strange ≤ t.taken) }
 {
     let mut strange = 0usize;

@@ -15,9 +15,9 @@ use wire::Wire;
 impl<'w, W: Wire, B: RuleBook> Line<'w, W, B> {
     // Asks the other end for the block, for a train: the serial of the asking.
     pub fn ask(&mut self, block: u32, end: u32, train: u32, class: char) -> Result<u32, Fault>
-        ensures performed { Performed (setting limit admits picks loses) (Ask block end train class) (model waiting room self.old) (as_answer serial_answer result) (model waiting room self.new) }
+        ensures performed { Performed (setting B.limit B.admits W.picks W.loses) (Ask block end train class) (model W.waiting W.room self.old) (as_answer serial_answer result) (model W.waiting W.room self.new) }
         ensures refused { is_ok result ≡ false → self.new.wire.now ≡ self.old.wire.now }
-        ensures posted { LinePosted waiting puts self.old self.new }
+        ensures posted { LinePosted W.waiting W.puts self.old self.new }
         ensures lender { self.new.wire.ghost_name ≡ self.old.wire.ghost_name }
     {
         self.asked(block, end, train, class)
@@ -25,9 +25,9 @@ impl<'w, W: Wire, B: RuleBook> Line<'w, W, B> {
 
     // Takes an asking back.
     pub fn withdraw(&mut self, block: u32, end: u32) -> Result<Sent, Fault>
-        ensures performed { Performed (setting limit admits picks loses) (Withdraw block end) (model waiting room self.old) (as_answer sent_answer result) (model waiting room self.new) }
+        ensures performed { Performed (setting B.limit B.admits W.picks W.loses) (Withdraw block end) (model W.waiting W.room self.old) (as_answer sent_answer result) (model W.waiting W.room self.new) }
         ensures refused { is_ok result ≡ false → self.new.wire.now ≡ self.old.wire.now }
-        ensures posted { LinePosted waiting puts self.old self.new }
+        ensures posted { LinePosted W.waiting W.puts self.old self.new }
         ensures lender { self.new.wire.ghost_name ≡ self.old.wire.ghost_name }
     {
         self.withdrawn(block, end)
@@ -35,9 +35,9 @@ impl<'w, W: Wire, B: RuleBook> Line<'w, W, B> {
 
     // Shows at the signal what is held.
     pub fn show(&mut self, block: u32, end: u32) -> Result<Permission, Fault>
-        ensures performed { Performed (setting limit admits picks loses) (Show block end) (model waiting room self.old) (as_answer shown_answer result) (model waiting room self.new) }
+        ensures performed { Performed (setting B.limit B.admits W.picks W.loses) (Show block end) (model W.waiting W.room self.old) (as_answer shown_answer result) (model W.waiting W.room self.new) }
         ensures refused { is_ok result ≡ false → self.new.wire.now ≡ self.old.wire.now }
-        ensures posted { LinePosted waiting puts self.old self.new }
+        ensures posted { LinePosted W.waiting W.puts self.old self.new }
         ensures lender { self.new.wire.ghost_name ≡ self.old.wire.ghost_name }
     {
         self.shown(block, end)
@@ -45,9 +45,9 @@ impl<'w, W: Wire, B: RuleBook> Line<'w, W, B> {
 
     // Reports that a train has passed the signal.
     pub fn enter(&mut self, block: u32, end: u32, train: u32) -> Result<Sent, Fault>
-        ensures performed { Performed (setting limit admits picks loses) (Enter block end train) (model waiting room self.old) (as_answer sent_answer result) (model waiting room self.new) }
+        ensures performed { Performed (setting B.limit B.admits W.picks W.loses) (Enter block end train) (model W.waiting W.room self.old) (as_answer sent_answer result) (model W.waiting W.room self.new) }
         ensures refused { is_ok result ≡ false → self.new.wire.now ≡ self.old.wire.now }
-        ensures posted { LinePosted waiting puts self.old self.new }
+        ensures posted { LinePosted W.waiting W.puts self.old self.new }
         ensures lender { self.new.wire.ghost_name ≡ self.old.wire.ghost_name }
     {
         self.entered(block, end, train)
@@ -55,9 +55,9 @@ impl<'w, W: Wire, B: RuleBook> Line<'w, W, B> {
 
     // Lets a train pass a signal at Stop by Form A, which is used up even when it is turned away.
     pub fn present(&mut self, form: Signed) -> Result<Sent, Fault>
-        ensures performed { Performed (setting limit admits picks loses) (Present form.paper.block form.paper.end form.paper.serial form.paper.train) (model waiting room self.old) (as_answer sent_answer result) (model waiting room self.new) }
+        ensures performed { Performed (setting B.limit B.admits W.picks W.loses) (Present form.paper.block form.paper.end form.paper.serial form.paper.train) (model W.waiting W.room self.old) (as_answer sent_answer result) (model W.waiting W.room self.new) }
         ensures refused { is_ok result ≡ false → self.new.wire.now ≡ self.old.wire.now }
-        ensures posted { LinePosted waiting puts self.old self.new }
+        ensures posted { LinePosted W.waiting W.puts self.old self.new }
         ensures lender { self.new.wire.ghost_name ≡ self.old.wire.ghost_name }
     {
         self.presented(form.hand_in())
@@ -65,9 +65,9 @@ impl<'w, W: Wire, B: RuleBook> Line<'w, W, B> {
 
     // Reports that a train has arrived.
     pub fn arrive(&mut self, block: u32, end: u32, train: u32) -> Result<Sent, Fault>
-        ensures performed { Performed (setting limit admits picks loses) (Arrive block end train) (model waiting room self.old) (as_answer sent_answer result) (model waiting room self.new) }
+        ensures performed { Performed (setting B.limit B.admits W.picks W.loses) (Arrive block end train) (model W.waiting W.room self.old) (as_answer sent_answer result) (model W.waiting W.room self.new) }
         ensures refused { is_ok result ≡ false → self.new.wire.now ≡ self.old.wire.now }
-        ensures posted { LinePosted waiting puts self.old self.new }
+        ensures posted { LinePosted W.waiting W.puts self.old self.new }
         ensures lender { self.new.wire.ghost_name ≡ self.old.wire.ghost_name }
     {
         self.arrived(block, end, train)
@@ -75,9 +75,9 @@ impl<'w, W: Wire, B: RuleBook> Line<'w, W, B> {
 
     // Puts again what the row of a train stands for: the kind of slip.
     pub fn repeat(&mut self, block: u32, end: u32, train: u32) -> Result<SlipKind, Fault>
-        ensures performed { Performed (setting limit admits picks loses) (Repeat block end train) (model waiting room self.old) (as_answer repeated_answer result) (model waiting room self.new) }
+        ensures performed { Performed (setting B.limit B.admits W.picks W.loses) (Repeat block end train) (model W.waiting W.room self.old) (as_answer repeated_answer result) (model W.waiting W.room self.new) }
         ensures refused { is_ok result ≡ false → self.new.wire.now ≡ self.old.wire.now }
-        ensures posted { LinePosted waiting puts self.old self.new }
+        ensures posted { LinePosted W.waiting W.puts self.old self.new }
         ensures lender { self.new.wire.ghost_name ≡ self.old.wire.ghost_name }
     {
         self.repeated(block, end, train)
@@ -85,9 +85,9 @@ impl<'w, W: Wire, B: RuleBook> Line<'w, W, B> {
 
     // Takes a slip from the wire and hands it to its end.
     pub fn deliver(&mut self) -> Result<Delivered, Fault>
-        ensures performed { Performed (setting limit admits picks loses) Deliver (model waiting room self.old) (as_answer delivered_answer result) (model waiting room self.new) }
+        ensures performed { Performed (setting B.limit B.admits W.picks W.loses) Deliver (model W.waiting W.room self.old) (as_answer delivered_answer result) (model W.waiting W.room self.new) }
         ensures refused { is_ok result ≡ false → self.new.wire.now ≡ self.old.wire.now }
-        ensures handled { LineDelivered waiting room takes puts (record { limit = limit; admits = admits }) self.old (as_answer delivered_answer result) self.new }
+        ensures handled { LineDelivered W.waiting W.room W.takes W.puts (record { limit = B.limit; admits = B.admits }) self.old (as_answer delivered_answer result) self.new }
         ensures lender { self.new.wire.ghost_name ≡ self.old.wire.ghost_name }
     {
         self.take_one()
@@ -95,8 +95,8 @@ impl<'w, W: Wire, B: RuleBook> Line<'w, W, B> {
 
     // Has the wire fade.
     pub fn fade(&mut self)
-        ensures performed { Performed (setting limit admits picks loses) Fade (model waiting room self.old) (as_answer faded_answer (Ok tt)) (model waiting room self.new) }
-        ensures faded { fades self.old.wire.now self.new.wire.now }
+        ensures performed { Performed (setting B.limit B.admits W.picks W.loses) Fade (model W.waiting W.room self.old) (as_answer faded_answer (Ok tt)) (model W.waiting W.room self.new) }
+        ensures faded { W.fades self.old.wire.now self.new.wire.now }
         ensures lender { self.new.wire.ghost_name ≡ self.old.wire.ghost_name }
     {
         self.fade_one()

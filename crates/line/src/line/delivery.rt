@@ -27,8 +27,8 @@ impl<'w, W: Wire, B: RuleBook> Line<'w, W, B> {
     // Sends the reply to a slip, if one is due.
     fn reply(&mut self, slip: Slip, heard: Heard) -> Ending
         requires { slip.block < 15 }
-        ensures value { (delivered_as slip result, model waiting room self.new) ≡ result_of (replying (model waiting room self.old) slip heard) }
-        ensures posted { LinePosted waiting puts self.old self.new }
+        ensures value { (delivered_as slip result, model W.waiting W.room self.new) ≡ result_of (replying (model W.waiting W.room self.old) slip heard) }
+        ensures posted { LinePosted W.waiting W.puts self.old self.new }
         ensures lender { self.new.wire.ghost_name ≡ self.old.wire.ghost_name }
     {
         match heard {
@@ -46,8 +46,8 @@ impl<'w, W: Wire, B: RuleBook> Line<'w, W, B> {
 
     // Hands a slip that was taken to its end, if the line has it.
     fn hand_over(&mut self, slip: Slip) -> Ending
-        ensures value { (delivered_as slip result, model waiting room self.new) ≡ result_of (deliver_outcome (record { limit = limit; admits = admits }) (model waiting room self.old) (waiting self.old.wire.now) (Some slip)) }
-        ensures posted { LinePosted waiting puts self.old self.new }
+        ensures value { (delivered_as slip result, model W.waiting W.room self.new) ≡ result_of (deliver_outcome (record { limit = B.limit; admits = B.admits }) (model W.waiting W.room self.old) (W.waiting self.old.wire.now) (Some slip)) }
+        ensures posted { LinePosted W.waiting W.puts self.old self.new }
         ensures lender { self.new.wire.ghost_name ≡ self.old.wire.ghost_name }
     {
         if !self.has_block(slip.block as u32) {
@@ -59,9 +59,9 @@ impl<'w, W: Wire, B: RuleBook> Line<'w, W, B> {
 
     // Takes a slip and hands it to its end; which slip, the wire chooses.
     pub(super) fn take_one(&mut self) -> Result<Delivered, Fault>
-        ensures value { (choice : Choice) × picks (waiting self.old.wire.now) choice.taken choice.left × ((as_answer delivered_answer result, model waiting room self.new) ≡ result_of (deliver_outcome (record { limit = limit; admits = admits }) (model waiting room self.old) choice.left choice.taken)) }
+        ensures value { (choice : Choice) × W.picks (W.waiting self.old.wire.now) choice.taken choice.left × ((as_answer delivered_answer result, model W.waiting W.room self.new) ≡ result_of (deliver_outcome (record { limit = B.limit; admits = B.admits }) (model W.waiting W.room self.old) choice.left choice.taken)) }
         ensures refused { is_ok result ≡ false → self.new.wire.now ≡ self.old.wire.now }
-        ensures handled { LineDelivered waiting room takes puts (record { limit = limit; admits = admits }) self.old (as_answer delivered_answer result) self.new }
+        ensures handled { LineDelivered W.waiting W.room W.takes W.puts (record { limit = B.limit; admits = B.admits }) self.old (as_answer delivered_answer result) self.new }
         ensures lender { self.new.wire.ghost_name ≡ self.old.wire.ghost_name }
     {
         let Some(slip) = self.wire.take() else {
@@ -76,8 +76,8 @@ impl<'w, W: Wire, B: RuleBook> Line<'w, W, B> {
 
     // Has the wire fade; what is lost, the wire chooses.
     pub(super) fn fade_one(&mut self)
-        ensures value { (choice : Choice) × (choice.taken ≡ None) × loses (waiting self.old.wire.now) choice.left × (model waiting room self.new ≡ (fade_outcome (model waiting room self.old) choice.left).after) }
-        ensures faded { fades self.old.wire.now self.new.wire.now }
+        ensures value { (choice : Choice) × (choice.taken ≡ None) × W.loses (W.waiting self.old.wire.now) choice.left × (model W.waiting W.room self.new ≡ (fade_outcome (model W.waiting W.room self.old) choice.left).after) }
+        ensures faded { W.fades self.old.wire.now self.new.wire.now }
         ensures lender { self.new.wire.ghost_name ≡ self.old.wire.ghost_name }
     {
         self.wire.fade();

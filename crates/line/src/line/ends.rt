@@ -116,7 +116,7 @@ impl<'w, W: Wire, B: RuleBook> Line<'w, W, B> {
     // Has an end hear a slip.
     pub(super) fn hear_at(&mut self, block: u32, end: End, serial: u32, message: Message) -> Heard
         requires { (block < 15) × (site block end < vec_len self.old.ends) }
-        ensures value { (result, ends_of self.new) ≡ moved (hears (record { limit = limit; admits = admits }) serial message) (ends_of self.old) block end }
+        ensures value { (result, ends_of self.new) ≡ moved (hears (record { limit = B.limit; admits = B.admits }) serial message) (ends_of self.old) block end }
         ensures wire { self.new.wire ≡ self.old.wire }
     {
         self.ends[site_of(block, end)].hear(&self.book, serial, message)

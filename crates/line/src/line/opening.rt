@@ -14,7 +14,7 @@ use wire::Wire;
 impl<'w, W: Wire, B: RuleBook> Line<'w, W, B> {
     // A line over these ends, which borrows a wire, silent or not.
     pub fn new(ends: Ends, wire: &'w mut W, book: B) -> Line<'w, W, B>
-        ensures model { model waiting room result ≡ record { ends = kept_ends ends; waiting = waiting wire.old; room = room wire.old } }
+        ensures model { model W.waiting W.room result ≡ record { ends = kept_ends ends; waiting = W.waiting wire.old; room = W.room wire.old } }
         ensures wire { result.wire.now ≡ wire.old }
         ensures lender { result.wire.ghost_name ≡ wire.entry.ghost_name }
     {
@@ -41,7 +41,7 @@ impl<'w, W: Wire, B: RuleBook + Drop> Line<'w, W, B> {
 impl<'w, W: Wire, B: RuleBook> Line<'w, W, B> {
     // Writes Form A: it copies the row that is held at an end.
     pub fn write_form(&self, block: u32, end: u32) -> Result<Written, Fault>
-        ensures { form_written result ≡ written_form block end (model waiting room self.now) }
+        ensures { form_written result ≡ written_form block end (model W.waiting W.room self.now) }
     {
         let here = self.locate(block, end)?;
         let held = self

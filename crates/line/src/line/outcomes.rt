@@ -21,9 +21,9 @@ impl<'w, W: Wire, B: RuleBook> Line<'w, W, B> {
         train: u32,
         class: char,
     ) -> Result<u32, Fault>
-        ensures value { (as_answer serial_answer result, model waiting room self.new) ≡ result_of (ask_outcome block end train class (model waiting room self.old)) }
+        ensures value { (as_answer serial_answer result, model W.waiting W.room self.new) ≡ result_of (ask_outcome block end train class (model W.waiting W.room self.old)) }
         ensures refused { is_ok result ≡ false → self.new.wire.now ≡ self.old.wire.now }
-        ensures posted { LinePosted waiting puts self.old self.new }
+        ensures posted { LinePosted W.waiting W.puts self.old self.new }
         ensures lender { self.new.wire.ghost_name ≡ self.old.wire.ghost_name }
     {
         let end = self.locate(block, end)?;
@@ -33,9 +33,9 @@ impl<'w, W: Wire, B: RuleBook> Line<'w, W, B> {
     }
 
     pub(super) fn withdrawn(&mut self, block: u32, end: u32) -> Result<Sent, Fault>
-        ensures value { (as_answer sent_answer result, model waiting room self.new) ≡ result_of (withdraw_outcome block end (model waiting room self.old)) }
+        ensures value { (as_answer sent_answer result, model W.waiting W.room self.new) ≡ result_of (withdraw_outcome block end (model W.waiting W.room self.old)) }
         ensures refused { is_ok result ≡ false → self.new.wire.now ≡ self.old.wire.now }
-        ensures posted { LinePosted waiting puts self.old self.new }
+        ensures posted { LinePosted W.waiting W.puts self.old self.new }
         ensures lender { self.new.wire.ghost_name ≡ self.old.wire.ghost_name }
     {
         let end = self.locate(block, end)?;
@@ -43,9 +43,9 @@ impl<'w, W: Wire, B: RuleBook> Line<'w, W, B> {
     }
 
     pub(super) fn shown(&mut self, block: u32, end: u32) -> Result<Permission, Fault>
-        ensures value { (as_answer shown_answer result, model waiting room self.new) ≡ result_of (show_outcome block end (model waiting room self.old)) }
+        ensures value { (as_answer shown_answer result, model W.waiting W.room self.new) ≡ result_of (show_outcome block end (model W.waiting W.room self.old)) }
         ensures refused { is_ok result ≡ false → self.new.wire.now ≡ self.old.wire.now }
-        ensures posted { LinePosted waiting puts self.old self.new }
+        ensures posted { LinePosted W.waiting W.puts self.old self.new }
         ensures lender { self.new.wire.ghost_name ≡ self.old.wire.ghost_name }
     {
         let end = self.locate(block, end)?;
@@ -53,9 +53,9 @@ impl<'w, W: Wire, B: RuleBook> Line<'w, W, B> {
     }
 
     pub(super) fn entered(&mut self, block: u32, end: u32, train: u32) -> Result<Sent, Fault>
-        ensures value { (as_answer sent_answer result, model waiting room self.new) ≡ result_of (enter_outcome block end train (model waiting room self.old)) }
+        ensures value { (as_answer sent_answer result, model W.waiting W.room self.new) ≡ result_of (enter_outcome block end train (model W.waiting W.room self.old)) }
         ensures refused { is_ok result ≡ false → self.new.wire.now ≡ self.old.wire.now }
-        ensures posted { LinePosted waiting puts self.old self.new }
+        ensures posted { LinePosted W.waiting W.puts self.old self.new }
         ensures lender { self.new.wire.ghost_name ≡ self.old.wire.ghost_name }
     {
         let end = self.locate(block, end)?;
@@ -64,9 +64,9 @@ impl<'w, W: Wire, B: RuleBook> Line<'w, W, B> {
     }
 
     pub(super) fn presented(&mut self, paper: Paper) -> Result<Sent, Fault>
-        ensures value { (as_answer sent_answer result, model waiting room self.new) ≡ result_of (present_outcome paper.block paper.end paper.serial paper.train (model waiting room self.old)) }
+        ensures value { (as_answer sent_answer result, model W.waiting W.room self.new) ≡ result_of (present_outcome paper.block paper.end paper.serial paper.train (model W.waiting W.room self.old)) }
         ensures refused { is_ok result ≡ false → self.new.wire.now ≡ self.old.wire.now }
-        ensures posted { LinePosted waiting puts self.old self.new }
+        ensures posted { LinePosted W.waiting W.puts self.old self.new }
         ensures lender { self.new.wire.ghost_name ≡ self.old.wire.ghost_name }
     {
         let end = self.locate(paper.block, paper.end)?;
@@ -76,9 +76,9 @@ impl<'w, W: Wire, B: RuleBook> Line<'w, W, B> {
     }
 
     pub(super) fn arrived(&mut self, block: u32, end: u32, train: u32) -> Result<Sent, Fault>
-        ensures value { (as_answer sent_answer result, model waiting room self.new) ≡ result_of (arrive_outcome block end train (model waiting room self.old)) }
+        ensures value { (as_answer sent_answer result, model W.waiting W.room self.new) ≡ result_of (arrive_outcome block end train (model W.waiting W.room self.old)) }
         ensures refused { is_ok result ≡ false → self.new.wire.now ≡ self.old.wire.now }
-        ensures posted { LinePosted waiting puts self.old self.new }
+        ensures posted { LinePosted W.waiting W.puts self.old self.new }
         ensures lender { self.new.wire.ghost_name ≡ self.old.wire.ghost_name }
     {
         let end = self.locate(block, end)?;
@@ -87,9 +87,9 @@ impl<'w, W: Wire, B: RuleBook> Line<'w, W, B> {
     }
 
     pub(super) fn repeated(&mut self, block: u32, end: u32, train: u32) -> Result<SlipKind, Fault>
-        ensures value { (as_answer repeated_answer result, model waiting room self.new) ≡ result_of (repeat_outcome block end train (model waiting room self.old)) }
+        ensures value { (as_answer repeated_answer result, model W.waiting W.room self.new) ≡ result_of (repeat_outcome block end train (model W.waiting W.room self.old)) }
         ensures refused { is_ok result ≡ false → self.new.wire.now ≡ self.old.wire.now }
-        ensures posted { LinePosted waiting puts self.old self.new }
+        ensures posted { LinePosted W.waiting W.puts self.old self.new }
         ensures lender { self.new.wire.ghost_name ≡ self.old.wire.ghost_name }
     {
         let end = self.locate(block, end)?;

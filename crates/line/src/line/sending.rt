@@ -18,11 +18,11 @@ use wire::Wire;
 impl<'w, W: Wire, B: RuleBook> Line<'w, W, B> {
     // Puts a slip: whether the wire took it.
     pub(super) fn send(&mut self, slip: Slip) -> Sent
-        ensures answer { result ≡ sent_by (put_answer slip (waiting self.old.wire.now) (room self.old.wire.now)) }
-        ensures after { waiting self.new.wire.now ≡ put_after slip (waiting self.old.wire.now) (room self.old.wire.now) }
-        ensures size { room self.new.wire.now ≡ room self.old.wire.now }
+        ensures answer { result ≡ sent_by (put_answer slip (W.waiting self.old.wire.now) (W.room self.old.wire.now)) }
+        ensures after { W.waiting self.new.wire.now ≡ put_after slip (W.waiting self.old.wire.now) (W.room self.old.wire.now) }
+        ensures size { W.room self.new.wire.now ≡ W.room self.old.wire.now }
         ensures ends { self.new.ends ≡ self.old.ends }
-        ensures posted { LinePosted waiting puts self.old self.new }
+        ensures posted { LinePosted W.waiting W.puts self.old self.new }
         ensures lender { self.new.wire.ghost_name ≡ self.old.wire.ghost_name }
     {
         match self.wire.put(slip) {
@@ -34,9 +34,9 @@ impl<'w, W: Wire, B: RuleBook> Line<'w, W, B> {
     // Makes a move at an end, and sends what it says: performed whether the wire takes the slip or not.
     pub(super) fn send_move(&mut self, block: u32, end: End, mv: Move) -> Result<Sent, Fault>
         requires { (block < 15) × (site block end < vec_len self.old.ends) }
-        ensures value { (as_answer sent_answer result, model waiting room self.new) ≡ result_of (sends (model waiting room self.old) block end (made_move (site block end) mv (at_end (ends_of self.old) block end))) }
+        ensures value { (as_answer sent_answer result, model W.waiting W.room self.new) ≡ result_of (sends (model W.waiting W.room self.old) block end (made_move (site block end) mv (at_end (ends_of self.old) block end))) }
         ensures refused { is_ok result ≡ false → self.new.wire.now ≡ self.old.wire.now }
-        ensures posted { LinePosted waiting puts self.old self.new }
+        ensures posted { LinePosted W.waiting W.puts self.old self.new }
         ensures lender { self.new.wire.ghost_name ≡ self.old.wire.ghost_name }
     {
         let word = self.move_at(block, end, mv)?;
@@ -52,9 +52,9 @@ impl<'w, W: Wire, B: RuleBook> Line<'w, W, B> {
         class: Class,
     ) -> Result<u32, Fault>
         requires { (block < 15) × (site block end < vec_len self.old.ends) }
-        ensures value { (as_answer serial_answer result, model waiting room self.new) ≡ result_of (then (model waiting room self.old) (next_serial_lem (site block end) train (at_end (ends_of self.old) block end)) (asks (model waiting room self.old) block end train class)) }
+        ensures value { (as_answer serial_answer result, model W.waiting W.room self.new) ≡ result_of (then (model W.waiting W.room self.old) (next_serial_lem (site block end) train (at_end (ends_of self.old) block end)) (asks (model W.waiting W.room self.old) block end train class)) }
         ensures refused { is_ok result ≡ false → self.new.wire.now ≡ self.old.wire.now }
-        ensures posted { LinePosted waiting puts self.old self.new }
+        ensures posted { LinePosted W.waiting W.puts self.old self.new }
         ensures lender { self.new.wire.ghost_name ≡ self.old.wire.ghost_name }
     {
         let serial = self.serial_at(block, end, train)?;
@@ -73,9 +73,9 @@ impl<'w, W: Wire, B: RuleBook> Line<'w, W, B> {
         train: Train,
     ) -> Result<SlipKind, Fault>
         requires { (block < 15) × (site block end < vec_len self.old.ends) }
-        ensures value { (as_answer repeated_answer result, model waiting room self.new) ≡ result_of (then (model waiting room self.old) (repeated (site block end) train (at_end (ends_of self.old) block end)) (says_again (model waiting room self.old) block end)) }
+        ensures value { (as_answer repeated_answer result, model W.waiting W.room self.new) ≡ result_of (then (model W.waiting W.room self.old) (repeated (site block end) train (at_end (ends_of self.old) block end)) (says_again (model W.waiting W.room self.old) block end)) }
         ensures refused { is_ok result ≡ false → self.new.wire.now ≡ self.old.wire.now }
-        ensures posted { LinePosted waiting puts self.old self.new }
+        ensures posted { LinePosted W.waiting W.puts self.old self.new }
         ensures lender { self.new.wire.ghost_name ≡ self.old.wire.ghost_name }
     {
         let word = self.repeat_at(block, end, train)?;

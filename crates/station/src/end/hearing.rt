@@ -53,7 +53,7 @@ impl Station {
 
     // Whether the book lets a train in behind the promised ones; at its limit the block is full, and it need not be asked.
     fn may_follow<B: RuleBook>(&self, book: &B, class: Class) -> bool
-        ensures value { result ≡ admitted (record { limit = limit; admits = admits }) class (kept self.now).promised }
+        ensures value { result ≡ admitted (record { limit = B.limit; admits = B.admits }) class (kept self.now).promised }
         ensures space { result ≡ true → vec_len self.now.promised < 4 }
     {
         let ahead = self.promised.len();
@@ -66,7 +66,7 @@ impl Station {
 
     // A WANTED that was not heard before.
     fn hear_new<B: RuleBook>(&mut self, book: &B, serial: u32, train: Train, class: Class) -> Heard
-        ensures { (result, kept self.new) ≡ against_own (record { limit = limit; admits = admits }) serial train class (kept self.old) (kept self.old).own }
+        ensures { (result, kept self.new) ≡ against_own (record { limit = B.limit; admits = B.admits }) serial train class (kept self.old) (kept self.old).own }
     {
         if self.own.is_empty() && self.promised.is_empty() {
             return self.promise(serial, train, class, Permission::Clear);
@@ -85,7 +85,7 @@ impl Station {
         train: Train,
         class: Class,
     ) -> Heard
-        ensures { (result, kept self.new) ≡ wanted_of (record { limit = limit; admits = admits }) serial train class (kept self.old) (find (promise_of serial) (kept self.old).promised) }
+        ensures { (result, kept self.new) ≡ wanted_of (record { limit = B.limit; admits = B.admits }) serial train class (kept self.old) (find (promise_of serial) (kept self.old).promised) }
     {
         if let Some(i) = self.place_promised(serial) {
             return Heard::Reply(given(self.promised[i].permission));
@@ -137,7 +137,7 @@ impl Station {
 
     // Hears a slip: what becomes of it, and what is kept then.
     pub fn hear<B: RuleBook>(&mut self, book: &B, serial: u32, message: Message) -> Heard
-        ensures { (result, kept self.new) ≡ hears (record { limit = limit; admits = admits }) serial message (kept self.old) }
+        ensures { (result, kept self.new) ≡ hears (record { limit = B.limit; admits = B.admits }) serial message (kept self.old) }
     {
         match message {
             Message::Wanted { train, class } => return self.hear_wanted(book, serial, train, class),

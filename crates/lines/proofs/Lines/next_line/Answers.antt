@@ -5,10 +5,10 @@ use Rattle.lines.specs.Lines.{next_line_lem, rest_of}
 use Rattle.std.proofs.lemmas.List.{drop_all, take_rest}
 use Rattle.std.proofs.lemmas.Bool.{cond-true, eq-eqb, eqb-true}
 
-pub returns-then-is-empty : goal.returns-then-is-empty
-returns-then-is-empty c =
+pub returns-then-is_empty : goal.returns-then-is_empty
+returns-then-is_empty c =
     let text = c.args.self.now.rest.now in
-    let none : length text ≡ 0 = eqb-true (length text) 0 (sym c.if-is-empty.ensures) in
+    let none : length text ≡ 0 = eqb-true (length text) 0 (sym c.if-is_empty.ensures) in
     let cut : ◌≡◌ {A = Option (List ℕ) × List ℕ} (None, text) (next_line_lem text) = sym (cond-true (eqb (length text) 0) _ _ (eq-eqb (length text) 0 none)) in
     let first = next text None text cut in
     record { cut = cut; all = first.all; less = first.less; short = first.short }

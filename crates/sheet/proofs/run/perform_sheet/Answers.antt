@@ -14,8 +14,8 @@ loop-text-init g c =
 pub loop-text-preserved : goal.loop-text-preserved
 loop-text-preserved g c =
     let e = c.in-Some.ensures in
-    let text = c.in-ok-push-str.ensures.bytes ∙ ap (λ (t : List ℕ). string_bytes c.loop-text.report ++ t) (c.as-str.ensures.value ∙ c.in-ok-entry.ensures) in
-    rw text (one_more c.loop-text.invariant c.in-Some.text.now (rest_of c.next-line.new.self) c.perform-line.result c.number-of-answer.result _ e.all (e.less refl) c.number-of-answer.ensures c.perform-line.ensures)
+    let text = c.in_ok-push_str.ensures.bytes ∙ ap (λ (t : List ℕ). string_bytes c.loop-text.report ++ t) (c.as_str.ensures.value ∙ c.in_ok-entry.ensures) in
+    rw text (one_more c.loop-text.invariant c.in-Some.text.now (rest_of c.next_line.new.self) c.perform_line.result c.number_of-answer.result _ e.all (e.less refl) c.number_of-answer.ensures c.perform_line.ensures)
 
 pub returns : goal.returns
-returns g c = all_done c.loop-text.invariant c.in-default.ensures.all
+returns g c = all_done c.loop-text.invariant c.in_default.ensures.all

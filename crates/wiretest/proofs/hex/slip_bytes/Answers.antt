@@ -14,17 +14,17 @@ loop-i-init c = (refl, spell_start c.args.line.now)
 long : (line : List ℕ) → length line ≡ 20 → spelled line ≡ bytes_of line
 long line h = cond-true (eqb (length line) 20) (bytes_of line) None (eq-eqb (length line) 20 h)
 
-pub returns-in-err-bytes : goal.returns-in-err-bytes
-returns-in-err-bytes c =
+pub returns-in_err-bytes : goal.returns-in_err-bytes
+returns-in_err-bytes c =
     let line = c.args.line.now in
     let l = c.loop-i in
-    c.from-residual.ensures ∙ sym (long line c.if-line.false ∙ spell_none line l.bytes l.i (bytes_of line) (omega arith) l.invariant.1 c.in-err-bytes.ensures)
+    c.from_residual.ensures ∙ sym (long line c.if-line.false ∙ spell_none line l.bytes l.i (bytes_of line) (omega arith) l.invariant.1 c.in_err-bytes.ensures)
 
 pub loop-i-preserved : goal.loop-i-preserved
 loop-i-preserved c =
     let line = c.args.line.now in
     let l = c.loop-i in
-    (length-set l.bytes l.i c.in-ok-bytes.field-0 ∙ l.invariant.0, spell_more line l.bytes l.i c.in-ok-bytes.field-0 (bytes_of line) (omega arith) (omega arith) l.invariant.1 c.in-ok-bytes.ensures)
+    (length-set l.bytes l.i c.in_ok-bytes.field-0 ∙ l.invariant.0, spell_more line l.bytes l.i c.in_ok-bytes.field-0 (bytes_of line) (omega arith) (omega arith) l.invariant.1 c.in_ok-bytes.ensures)
 
 pub returns : goal.returns
 returns c =

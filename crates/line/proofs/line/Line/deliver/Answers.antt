@@ -8,5 +8,5 @@ returns g c =
     let w = g.W.Wire in
     let b = g.B.RuleBook in
     let m = model {B = g.row.B.Denot} w.waiting w.room c.args.self.now in
-    let e = c.take-one.ensures in
+    let e = c.take_one.ensures in
     record { performed = settled b.limit b.admits w.picks w.loses g.met.B.RuleBook.meaning w.picking w.losing (Call.Deliver) m e.value.0 e.value.1 _ _ e.value.2; refused = e.refused; handled = e.handled; lender = e.lender }

@@ -8,4 +8,4 @@ pub returns : goal.returns
 returns g c =
     let xs = vec_items c.args.self.now.ends in
     let inside : site c.args.block c.args.end < length xs = omega (arith, c.args.self.now.ends.ok.0, c.requires.1) in
-    look_there xs c.site-of.result c.args.block c.args.end c.index.result.now c.site-of.ensures inside c.index.ensures (λ n. held) c.held.result c.held.ensures.value
+    look_there xs c.site_of.result c.args.block c.args.end c.index.result.now c.site_of.ensures inside c.index.ensures (λ n. held) c.held.result c.held.ensures.value

@@ -11,11 +11,11 @@ pub returns : goal.returns
 returns g c =
     let xs = vec_items c.args.self.now.ends in
     let inside : site c.args.block c.args.end < length xs = omega (arith, c.args.self.now.ends.ok.0, c.requires.1.0) in
-    let x = c.index-mut.result.now in
-    let k = there xs c.site-of.result c.args.block c.args.end x c.site-of.ensures inside c.index-mut.ensures.value in
+    let x = c.index_mut.result.now in
+    let k = there xs c.site_of.result c.args.block c.args.end x c.site_of.ensures inside c.index_mut.ensures.value in
     let few : length (kept x).own < 4 = omega (arith, c.requires.1.1, ap (λ (z : Kept). length z.own) k) in
-    let done = ap (λ (p : Bool × Kept). p.1) (c.note-asking.ensures ∙ cond-true _ _ _ (lt-ltb (length (kept x).own) 4 few)) in
+    let done = ap (λ (p : Bool × Kept). p.1) (c.note_asking.ensures ∙ cond-true _ _ _ (lt-ltb (length (kept x).own) 4 few)) in
     record {
-      ends = set_there xs c.site-of.result c.args.block c.args.end x c.site-of.ensures inside c.index-mut.ensures.value _ c.note-asking.new.self (done ∙ ap (with_asking c.args.serial c.args.train c.args.class) (sym k));
+      ends = set_there xs c.site_of.result c.args.block c.args.end x c.site_of.ensures inside c.index_mut.ensures.value _ c.note_asking.new.self (done ∙ ap (with_asking c.args.serial c.args.train c.args.class) (sym k));
       wire = refl;
     }

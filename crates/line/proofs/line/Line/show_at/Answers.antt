@@ -8,10 +8,10 @@ pub returns : goal.returns
 returns g c =
     let xs = vec_items c.args.self.now.ends in
     let inside : site c.args.block c.args.end < length xs = omega (arith, c.args.self.now.ends.ok.0, c.requires.1) in
-    let x = c.index-mut.result.now in
+    let x = c.index_mut.result.now in
     let y = c.show.new.self in
     record {
-      value = move_there xs c.site-of-at.result c.args.block c.args.end x c.site-of-at.ensures inside c.index-mut.ensures.value (shown) y c.show.result c.show.ensures.value;
-      refused = λ e. stay_there xs c.site-of-at.result c.args.block c.args.end x c.site-of-at.ensures inside c.index-mut.ensures.value y (c.show.ensures.refused e);
+      value = move_there xs c.site_of-at.result c.args.block c.args.end x c.site_of-at.ensures inside c.index_mut.ensures.value (shown) y c.show.result c.show.ensures.value;
+      refused = λ e. stay_there xs c.site_of-at.result c.args.block c.args.end x c.site_of-at.ensures inside c.index_mut.ensures.value y (c.show.ensures.refused e);
       wire = refl;
     }

@@ -9,15 +9,15 @@ use Rattle.slip.specs.declared.paper.SlipKind.{SlipKind}
 use Rattle.std.proofs.lemmas.Bool.{false≢true}
 
 -- nothing waits, and the wire is as it was
-pub returns-in-default : goal.returns-in-default
-returns-in-default g c =
-    let same = c.in-default.ensures.refused refl in
+pub returns-in_default : goal.returns-in_default
+returns-in_default g c =
+    let same = c.in_default.ensures.refused refl in
     let over : g.row.W.Denot → Model = λ w. record { ends = ends_of c.args.self.now; waiting = g.W.Wire.waiting w; room = g.W.Wire.room w } in
     let outcome : ◌≡◌ {A = Result Answer Fault × Model} (Err c.silent.result, over c.take.new.self) (Err nothing_waits, over c.args.self.now.wire.now) = λ i. (Err (c.silent.ensures i), over (same i)) in
     record {
-      value = (record { taken = None; left = g.W.Wire.waiting c.take.new.self }, c.in-default.ensures.picked, outcome);
+      value = (record { taken = None; left = g.W.Wire.waiting c.take.new.self }, c.in_default.ensures.picked, outcome);
       refused = λ _. same;
-      handled = (None, c.take.new.self, c.in-default.ensures.own, outcome, inl refl);
+      handled = (None, c.take.new.self, c.in_default.ensures.own, outcome, inl refl);
       lender = refl;
     }
 
@@ -27,7 +27,7 @@ returns g c =
     let b : Book = record { limit = g.B.RuleBook.limit; admits = g.B.RuleBook.admits } in
     let mo = model {B = g.row.B.Denot} g.W.Wire.waiting g.W.Wire.room in
     let left = g.W.Wire.waiting c.take.new.self in
-    let h = c.hand-over-ending in
+    let h = c.hand_over-ending in
     let s = c.in-Some.slip in
     let outcome =
     ap (λ (k : SlipKind). (Ok (Answer.Delivered (record { kind = k; ending = h.result })), mo h.new.self)) c.kind.ensures

@@ -12,4 +12,4 @@ one_more xs ys x n k e p q =
 
 pub loop-i-preserved : goal.loop-i-preserved
 loop-i-preserved c =
-    (search rules, one_more (vec_items c.loop-i.ends) (vec_items c.push.new.self) c.in-ok-new.field-0 c.loop-i.i (idle c.args.start) c.in-ok-push.ensures.items c.loop-i.invariant.1 c.in-ok-new.ensures)
+    (search rules, one_more (vec_items c.loop-i.ends) (vec_items c.push.new.self) c.in_ok-new.field-0 c.loop-i.i (idle c.args.start) c.in_ok-push.ensures.items c.loop-i.invariant.1 c.in_ok-new.ensures)

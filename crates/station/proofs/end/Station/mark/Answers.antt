@@ -13,7 +13,7 @@ loop-i-preserved c =
     let s = c.args.self.now in
     let l = c.loop-i in
     let i = l.invariant in (
-      ap (set (vec_items l.self.promised) l.i) c.mark-of.ensures ∙ map_over_more (marked c.args.serial) (vec_items s.promised) (vec_items l.self.promised) l.i c.index.result.now (omega (arith, s.promised.ok.0)) i.0 c.index.ensures,
+      ap (set (vec_items l.self.promised) l.i) c.mark_of.ensures ∙ map_over_more (marked c.args.serial) (vec_items s.promised) (vec_items l.self.promised) l.i c.index.result.now (omega (arith, s.promised.ok.0)) i.0 c.index.ensures,
       i.1,
       i.2,
       i.3,

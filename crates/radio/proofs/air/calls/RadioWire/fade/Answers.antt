@@ -8,8 +8,8 @@ use Rattle.std.proofs.lemmas.Bool.{eqb-true}
 use Rattle.std.specs.List.{remove}
 use Rattle.wire.specs.Waiting.{Faded}
 
-pub returns-then-not-is-empty : goal.returns-then-not-is-empty
-returns-then-not-is-empty c =
+pub returns-then-not-is_empty : goal.returns-then-not-is_empty
+returns-then-not-is_empty c =
     let s = c.args.self.now in
     let e = c.draw-byte.ensures in
     let i : ℕ = c.draw-byte.result % c.len.result in
@@ -28,10 +28,10 @@ returns-then-not-is-empty c =
       };
     }
 
-pub returns-else-not-is-empty : goal.returns-else-not-is-empty
-returns-else-not-is-empty c =
+pub returns-else-not-is_empty : goal.returns-else-not-is_empty
+returns-else-not-is_empty c =
     let s = c.args.self.now in
-    let z = eqb-true (vec_len s.slips) 0 (sym c.if-not-is-empty.ensures) in
+    let z = eqb-true (vec_len s.slips) 0 (sym c.if-not-is_empty.ensures) in
     let none : length (slips_of s) ≡ 0 = omega (arith, s.slips.ok.0) in
     record {
       lost = inl refl;

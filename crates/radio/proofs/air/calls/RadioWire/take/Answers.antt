@@ -8,10 +8,10 @@ use Rattle.std.proofs.lemmas.Bool.{eqb-true, false≢true}
 use Rattle.std.specs.List.{remove}
 use Rattle.wire.specs.Waiting.{Taken}
 
-pub returns-then-is-empty : goal.returns-then-is-empty
-returns-then-is-empty c =
+pub returns-then-is_empty : goal.returns-then-is_empty
+returns-then-is_empty c =
     let s = c.args.self.now in
-    let z = eqb-true (vec_len s.slips) 0 (sym c.if-is-empty.ensures) in
+    let z = eqb-true (vec_len s.slips) 0 (sym c.if-is_empty.ensures) in
     let none : length (slips_of s) ≡ 0 = omega (arith, s.slips.ok.0) in
     record {
       picked = taken_none (slips_of s) (byte_of s) none;

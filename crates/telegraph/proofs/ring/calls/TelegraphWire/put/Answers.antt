@@ -9,25 +9,25 @@ use Rattle.wire.proofs.Puts.{formed_from_ok, put_done, put_full}
 pub returns-then-self : goal.returns-then-self
 returns-then-self c =
     let s = c.args.self.now in
-    let formed = formed_from_ok c.args.slip c.in-ok-check-form.field-0 (sym c.check-form.ensures ∙ c.in-ok-check-form.was) in
+    let formed = formed_from_ok c.args.slip c.in_ok-check_form.field-0 (sym c.check_form.ensures ∙ c.in_ok-check_form.was) in
     let p = put_full c.args.slip (slips_of s) s.room s.count c.full.result formed (length_ring s.bytes.now s.room s.first s.count) c.if-self.true c.full.ensures in
     record { answer = p.answer; after = p.after; size = refl; refused = λ _. refl; own = λ e. absurd (false≢true e) }
 
-pub invariant-of-self : goal.invariant-of-self
-invariant-of-self c =
+pub invariant_of-self : goal.invariant_of-self
+invariant_of-self c =
     let s = c.args.self.now in
     let l = c.store.new.self in
-    let formed = formed_from_ok c.args.slip c.in-ok-check-form.field-0 (sym c.check-form.ensures ∙ c.in-ok-check-form.was) in
-    let a = after_store s l c.write.new.out _ c.args.slip c.write.result c.in-ok-write.field-0 (omega arith) formed c.in-ok-write.was c.write.ensures.fits c.write.ensures.after c.store.ensures.bytes c.store.ensures.rest in
-    (a.put.sized, (l.within, (omega arith, (a.put.readable, tt))))
+    let formed = formed_from_ok c.args.slip c.in_ok-check_form.field-0 (sym c.check_form.ensures ∙ c.in_ok-check_form.was) in
+    let a = after_store s l c.write.new.out _ c.args.slip c.write.result c.in_ok-write.field-0 (omega arith) formed c.in_ok-write.was c.write.ensures.fits c.write.ensures.after c.store.ensures.bytes c.store.ensures.rest in
+    record { sized = a.put.sized; within = l.within; few = omega arith; readable = a.put.readable }
 
 pub returns : goal.returns
 returns c =
     let s = c.args.self.now in
     let l = c.store.new.self in
-    let formed = formed_from_ok c.args.slip c.in-ok-check-form.field-0 (sym c.check-form.ensures ∙ c.in-ok-check-form.was) in
+    let formed = formed_from_ok c.args.slip c.in_ok-check_form.field-0 (sym c.check_form.ensures ∙ c.in_ok-check_form.was) in
     let space : s.count < s.room = omega arith in
-    let a = after_store s l c.write.new.out _ c.args.slip c.write.result c.in-ok-write.field-0 space formed c.in-ok-write.was c.write.ensures.fits c.write.ensures.after c.store.ensures.bytes c.store.ensures.rest in
+    let a = after_store s l c.write.new.out _ c.args.slip c.write.result c.in_ok-write.field-0 space formed c.in_ok-write.was c.write.ensures.fits c.write.ensures.after c.store.ensures.bytes c.store.ensures.rest in
     let d = put_done c.args.slip (slips_of s) s.room formed (omega (arith, length_ring s.bytes.now s.room s.first s.count)) in
     record {
       answer = d.answer;

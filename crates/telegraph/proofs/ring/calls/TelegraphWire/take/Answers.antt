@@ -9,15 +9,20 @@ use Rattle.wire.specs.Waiting.{OldestFirst}
 pub unreachable-requires : goal.unreachable-requires
 unreachable-requires c =
     let s = c.args.self.now in
-    oldest_reads s.bytes.now s.room s.first s.count (s.within (omega arith)) (omega arith) s.few c.in-default.field-0 s.readable c.in-default.ensures
+    oldest_reads s.bytes.now s.room s.first s.count (s.within (omega arith)) (omega arith) s.few c.in_default.field-0 s.readable c.in_default.ensures
 
-pub invariant-of-self : goal.invariant-of-self
-invariant-of-self c =
+pub invariant_of-self : goal.invariant_of-self
+invariant_of-self c =
     let s = c.args.self.now in
     let some : 0 < s.count = omega arith in
     let inside : s.first < s.room = s.within (omega arith) in
     let r = readable_take s.bytes.now s.room s.first s.count inside some s.few s.readable in
-    (s.sized, (λ _. c.step-self.ensures.below, (omega arith, (subst (λ (p : ℕ). Readable s.bytes.now s.room p (s.count - 1)) (sym c.step-self.ensures.value) r, tt))))
+    record {
+      sized = s.sized;
+      within = λ _. c.step-self.ensures.below;
+      few = omega arith;
+      readable = subst (λ (p : ℕ). Readable s.bytes.now s.room p (s.count - 1)) (sym c.step-self.ensures.value) r;
+    }
 
 pub returns : goal.returns
 returns c =

@@ -17,7 +17,7 @@ pub returns : goal.returns
 returns g c =
     let posted = c.in_ok-posted.ensures in
     let sent = c.in_ok-posted.posted.sent in
-    let came = c.in_ok-came.branch in
+    let came = c.in_ok-came.came in
     let judged = subst (λ (ss : List Slip). Decides c.is_faithful-faithful.result (AsWritten ss (vec_items came))) c.as_slice.ensures.value (subst (λ (ss : List Slip). Decides c.is_faithful-faithful.result (AsWritten c.as_slice.result.now ss)) c.as_slice-2.ensures.value c.is_faithful-faithful.ensures) in
     tried g.W.Wire.picking (string_bytes c.in_ok-report.report) (string_bytes c.post_all.new.report) (vec_items sent) (g.W.Wire.waiting c.post_all.new.wire)
     c.in_ok-report.ensures.ok posted.sent posted.waits posted.told c.in_ok-came.ensures c.is_faithful-faithful.result judged

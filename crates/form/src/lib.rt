@@ -1,7 +1,7 @@
 // Form A, by which a train passes a signal at Stop: written, signed twice, and then presented or voided.
 #![tactic(auto)]
 
-ghost use Rattle.std.specs.Prelude.{◌≡◌};
+ghost use Rattle.std.specs.Prelude.{◌≡◌, true, false};
 
 // What stands on a form: the block and end, and the serial and train of the row that is held there.
 #[derive(Clone, Copy, PartialEq, Eq, Debug)]
@@ -27,6 +27,7 @@ pub struct HalfSigned {
 // A form that both have signed. It is presented or voided: it cannot lapse.
 pub struct Signed {
     paper: Paper,
+    used: bool,
 }
 
 impl Written {
@@ -55,10 +56,11 @@ impl Written {
 impl HalfSigned {
     // The engineman signs second.
     pub fn sign_as_engineman(self) -> Signed
-        ensures { result.paper ≡ self.paper }
+        ensures paper { result.paper ≡ self.paper }
+        ensures unused { result.used ≡ false }
     {
         let HalfSigned { paper } = self;
-        Signed { paper }
+        Signed { paper, used: false }
     }
 }
 
@@ -67,7 +69,7 @@ impl Signed {
     pub fn hand_in(self) -> Paper
         ensures { result ≡ self.paper }
     {
-        let Signed { paper } = self;
+        let Signed { paper, used: _ } = self;
         paper
     }
 
@@ -79,12 +81,12 @@ impl Signed {
     }
 }
 
-// Nobody can meet this, so a signed form that is merely let go is not proved.
+// Only a form that is used may be let go. No form is made so, and handing in takes it apart: one that is merely let go is not proved.
 impl Drop for Signed {
     fn drop(self)
-        requires { ⊥ }
+        requires { self.used ≡ true }
     {
-        let Signed { paper: _ } = self;
+        let Signed { paper: _, used: _ } = self;
     }
 }
 

@@ -13,7 +13,7 @@ use Rattle.rules.proofs.Tools.{all_weaker}
 use Rattle.rules.proofs.Whole.{Waits, Whole}
 use Rattle.rules.specs.Ends.{Kept, idle}
 use Rattle.rules.specs.Laws.{AlwaysSafe, LawfulSetting, Performed, RowsAlways, RowsInOrder}
-use Rattle.rules.specs.Lines.{Model, at_end, blocks, site}
+use Rattle.rules.specs.Lines.{Model, at_end, site}
 use Rattle.rules.specs.Lists.{All}
 use Rattle.rules.specs.Runs.{Choice, Chosen, Event, JustMade, MadeSilent, Run, Setting, Step, any_wire, outcome, seen}
 use Rattle.rules.specs.Tally.{Tallies, empty, fed_by, nothing, tally}

@@ -1,5 +1,5 @@
 -- The rows of one end stay in order, whatever slip is heard there.
-use Rattle.std.proofs.Common.{◌≡◌, ℕ, ◌+◌, ◌<◌, ◌≤◌, max, Bool, true, false, cond, not, ◌&&◌, eqb, leb, ◌⊎◌, List, [], ◌∷◌, ◌++◌, map, length, Some, None, Option, sym, refl, ap, subst, inl, inr, arith}
+use Rattle.std.proofs.Common.{◌≡◌, ℕ, ◌<◌, ◌≤◌, max, Bool, true, false, cond, not, ◌&&◌, eqb, leb, ◌⊎◌, List, [], ◌∷◌, ◌++◌, map, length, Some, None, Option, sym, refl, ap, subst, inl, inr, arith}
 use Rattle.book.specs.Books.{Book, Lawful}
 use Rattle.rules.proofs.Newest.{first_keeping, leaves, newest_keeping, shorter_keeping}
 use Rattle.rules.proofs.Orderly.{Orderly, fewer, renewed_orderly, stops, with_rows}

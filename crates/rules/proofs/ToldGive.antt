@@ -1,5 +1,5 @@
 -- The tally of the direction that an end gives in, where its promised rows change.
-use Rattle.std.proofs.Common.{◌≡◌, ℕ, suc, ◌+◌, ◌<◌, ◌≤◌, Bool, true, false, cond, not, eqb, List, [], ◌∷◌, ◌++◌, map, length, Some, None, Option, sym, refl, ap, subst, inl, inr, arith}
+use Rattle.std.proofs.Common.{◌≡◌, ℕ, suc, ◌<◌, ◌≤◌, Bool, true, false, cond, not, eqb, List, [], ◌∷◌, ◌++◌, map, length, Some, None, Option, sym, refl, ap, subst, inl, inr, arith}
 use Rattle.book.specs.Books.{Book, Lawful}
 use Rattle.rules.proofs.OrderlyHeard.{room_left}
 use Rattle.rules.proofs.Sound.{Asked, NotAt}

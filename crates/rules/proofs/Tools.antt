@@ -1,5 +1,5 @@
 -- Lemmas on lists of any kind.
-use Rattle.std.proofs.Common.{◌≡◌, suc, ◌+◌, ◌≤◌, Bool, true, false, cond, List, [], ◌∷◌, ◌++◌, map, length, Some, refl, ap, inl, inr, arith}
+use Rattle.std.proofs.Common.{◌≡◌, suc, ◌≤◌, Bool, true, false, cond, List, [], ◌∷◌, ◌++◌, map, length, Some, refl, ap, inl, inr, arith}
 use Rattle.rules.specs.Lists.{All, Any, Each, Pairwise, find, keeping}
 
 -- cases on a test, with the equation

@@ -5,7 +5,6 @@ use Rattle.rules.specs.Ends.{Kept, idle, station_fault}
 use Rattle.rules.specs.Hearing.{hears}
 use Rattle.rules.specs.Moves.{Done, arrived, entered, held, next_serial_lem, presented, repeated, shown, with_asking, withdrawn, word}
 use Rattle.rules.specs.declared.answers.Answer.{Answer}
-use Rattle.rules.specs.declared.answers.Delivered.{Delivered}
 use Rattle.rules.specs.declared.answers.Ending.{Ending}
 use Rattle.rules.specs.declared.answers.Sent.{Sent}
 use Rattle.rules.specs.declared.rows.Heard.{Heard}

@@ -2,14 +2,13 @@
 use Rattle.std.proofs.Common.{◌≡◌, ℕ, zero, suc, ◌+◌, ◌-◌, ◌<◌, ◌≤◌, min, List, [], ◌∷◌, ◌++◌, length, take, Ok, Err, Result, sym, refl, ap, ◌∙◌, subst, ⊎_elim, append_assoc, append-nil, arith, take_all}
 use Rattle.book.specs.Books.{class_book}
 use Rattle.lines.specs.Lines.{lines_of}
-use Rattle.rules.specs.Ends.{idle}
 use Rattle.rules.specs.Lines.{Model, Outcome}
 use Rattle.rules.specs.Runs.{Choice, Chosen, Event, MadeSilent, Run, Setting, outcome}
 use Rattle.rules.specs.declared.answers.Answer.{Answer}
 use Rattle.rules.specs.declared.calls.Call.{Call}
 use Rattle.sheet.specs.Calls.{Turn, call_at}
 use Rattle.sheet.specs.Report.{line_text, numbered}
-use Rattle.sheet.specs.Sheets.{Came, Chain, Entry, SafeChain, SheetPerformed, SheetReported, answer_of, counted, events_after, given_to, lines_before, new_line, office, oldest, report_for, report_from, report_of, turn, turn_of}
+use Rattle.sheet.specs.Sheets.{Came, Chain, Entry, SafeChain, SheetPerformed, SheetReported, answer_of, counted, events_after, given_to, lines_before, new_line, office, oldest, report_from, report_of, turn_of}
 use Rattle.slip.specs.declared.fault.Fault.{Fault}
 use Rattle.slip.specs.declared.paper.Slip.{Slip}
 use Rattle.std.proofs.lemmas.Bool.{cases_lt}

@@ -1,5 +1,5 @@
 -- A line that reads as a call is the one that the call is written as.
-use Rattle.std.proofs.Common.{◌≡◌, ℕ, ◌+◌, ◌<◌, ◌≤◌, Bool, true, false, cond, ◌&&◌, leb, List, [], ◌∷◌, ◌++◌, Some, None, Ok, codes, decimal, Option, sym, refl, ap, ◌∙◌, subst, arith}
+use Rattle.std.proofs.Common.{◌≡◌, ℕ, ◌<◌, ◌≤◌, Bool, true, false, cond, ◌&&◌, leb, List, [], ◌∷◌, ◌++◌, Some, None, Ok, codes, decimal, Option, sym, refl, ap, ◌∙◌, subst, arith}
 use Rattle.slip.specs.declared.track.End.{End}
 use Rattle.slip.specs.declared.track.End.TheVariants.{East, West}
 use Rattle.std.proofs.lemmas.Slice.Eq.{bytes_eq-Decides}

@@ -2,7 +2,7 @@ use Rattle.passage.proofs.receive.are_among.Goals as goal
 use Rattle.std.proofs.ByRecursion.{All-get_or, All-more}
 use Rattle.std.proofs.lemmas.Bool.{false≢true}
 use Rattle.std.specs.List.{ContainsAt as Has, AllByRecursion as All}
-use Rattle.std.proofs.Common.{refl, subst, arith, take_all}
+use Rattle.std.proofs.Common.{refl, subst, take_all}
 
 pub returns-then-not-is_among : goal.returns-then-not-is_among
 returns-then-not-is_among c = (

@@ -1,4 +1,4 @@
-use Rattle.passage.proofs.Receiving.{allowed, emptied, one_more}
+use Rattle.passage.proofs.Receiving.{emptied, one_more}
 use Rattle.passage.proofs.receive.take_all.Goals as goal
 use Rattle.std.proofs.Common.{arith}
 

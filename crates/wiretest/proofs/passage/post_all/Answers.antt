@@ -1,4 +1,4 @@
-use Rattle.std.proofs.Common.{ℕ, ◌+◌, List, length, vec_items, vec_len, ap, ◌∙◌, arith, rules}
+use Rattle.std.proofs.Common.{ℕ, ◌+◌, List, length, vec_items, vec_len, ap, ◌∙◌, arith}
 use Rattle.lines.specs.Lines.{lines_of, rest_of}
 use Rattle.wiretest.proofs.Posting.{line_counted, line_within, sent_more, sent_same}
 use Rattle.wiretest.proofs.passage.post_all.Goals as goal

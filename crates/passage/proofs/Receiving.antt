@@ -4,7 +4,7 @@ use Rattle.passage.specs.Reports.{TakenAll, came_told, taken_text}
 use Rattle.passage.specs.Takes.{AsWritten, Came}
 use Rattle.slip.specs.declared.paper.Slip.{Slip}
 use Rattle.std.proofs.ByRecursion.{all_has_itself}
-use Rattle.std.specs.List.{ContainsAt as Has, AllByRecursion as All}
+use Rattle.std.specs.List.{ContainsAt, AllByRecursion}
 use Rattle.wire.specs.Waiting.{LawfulPicks, Picks, Taken}
 
 -- of ws these came and ws' wait; `text'` is told, after `text`
@@ -41,35 +41,35 @@ module _ {picks : Picks} {ws : List Slip} {text : List ℕ} {came ws' : List Sli
 
 -- WHAT A LAWFUL WIRE HANDS OUT
 
-parts : {X : Type 0} (P : X → Type 0) (older newer : List X) (x : X) → All P (older ++ (x ∷ newer)) → P x × All P (older ++ newer)
+parts : {X : Type 0} (P : X → Type 0) (older newer : List X) (x : X) → AllByRecursion P (older ++ (x ∷ newer)) → P x × AllByRecursion P (older ++ newer)
 parts P [] newer x h = h
 parts P (y ∷ older) newer x h = let rest = parts P older newer x h.1 in (rest.0, (h.0, rest.1))
 
-whole : {X : Type 0} (P : X → Type 0) (older newer : List X) (x : X) → P x → All P (older ++ newer) → All P (older ++ (x ∷ newer))
+whole : {X : Type 0} (P : X → Type 0) (older newer : List X) (x : X) → P x → AllByRecursion P (older ++ newer) → AllByRecursion P (older ++ (x ∷ newer))
 whole P [] newer x h rest = (h, rest)
 whole P (y ∷ older) newer x h rest = (rest.0, whole P older newer x h rest.1)
 
 -- what holds of all that waits holds of the slip that is taken, and of all that is left; and the other way round
-of_taken : (P : Slip → Type 0) (ws : List Slip) (s : Slip) (left : List Slip) → Taken ws (Some s) left → All P ws → P s × All P left
+of_taken : (P : Slip → Type 0) (ws : List Slip) (s : Slip) (left : List Slip) → Taken ws (Some s) left → AllByRecursion P ws → P s × AllByRecursion P left
 of_taken P ws s left (older, newer, e, inl l) h = rw l (parts P older newer s (rw e at h))
 of_taken P ws s left (older, newer, e, inr l) h = ((parts P older newer s (rw e at h)).0, rw l h)
 
-of_left : (P : Slip → Type 0) (ws : List Slip) (s : Slip) (left : List Slip) → Taken ws (Some s) left → P s → All P left → All P ws
+of_left : (P : Slip → Type 0) (ws : List Slip) (s : Slip) (left : List Slip) → Taken ws (Some s) left → P s → AllByRecursion P left → AllByRecursion P ws
 of_left P ws s left (older, newer, e, inl l) h rest = rw e (whole P older newer s h (rw l at rest))
 of_left P ws s left (older, newer, e, inr l) h rest = rw l at rest
 
 module _ {picks : Picks} (lawful : LawfulPicks picks) (P : Slip → Type 0) where
-  all_that_came : (ws came left : List Slip) → Came picks ws came left → All P ws → All P came
+  all_that_came : (ws came left : List Slip) → Came picks ws came left → AllByRecursion P ws → AllByRecursion P came
   all_that_came ws [] left e h = tt
   all_that_came ws (s ∷ came) left (after, pick, rest) h = let t = of_taken P ws s after (lawful ws (Some s) after pick) h in (t.0, all_that_came after came left rest t.1)
 
-  all_that_waited : (ws came left : List Slip) → Came picks ws came left → All P came → All P left → All P ws
+  all_that_waited : (ws came left : List Slip) → Came picks ws came left → AllByRecursion P came → AllByRecursion P left → AllByRecursion P ws
   all_that_waited ws [] left e h rest = rw e at rest
   all_that_waited ws (s ∷ came) left (after, pick, more) h rest = of_left P ws s after (lawful ws (Some s) after pick) h.0 (all_that_waited after came left more h.1 rest)
 
 -- so where nothing is left, what came is what waited
 pub came_as_written : {picks : Picks} → LawfulPicks picks → (ws came left : List Slip) → Came picks ws came left → left ≡ [] → AsWritten ws came
 came_as_written lawful ws came left c e = record {
-  none_strange = all_that_came lawful (Has ws) ws came left c (all_has_itself ws);
-  none_lost = all_that_waited lawful (Has came) ws came left c (all_has_itself came) (rw e tt);
+  none_strange = all_that_came lawful (ContainsAt ws) ws came left c (all_has_itself ws);
+  none_lost = all_that_waited lawful (ContainsAt came) ws came left c (all_has_itself came) (rw e tt);
 }

@@ -2,7 +2,7 @@
 ghost use Rattle.passage.specs.Reports.{TakenAll, taken_text};
 ghost use Rattle.passage.specs.Takes.{AsWritten};
 ghost use Rattle.std.specs.Prelude.{◌≡◌, ◌++◌, IfOk, string_bytes, Decides, OnOk};
-ghost use Rattle.std.specs.List.{ContainsAt as Has, AllByRecursion as All};
+ghost use Rattle.std.specs.List.{ContainsAt, AllByRecursion};
 
 use lineman::told;
 use slip::Slip;
@@ -18,7 +18,7 @@ fn is_same(one: &Slip, other: &Slip) -> bool
 
 // Whether a slip is one of those sent.
 fn is_among(sent: &[Slip], slip: &Slip) -> bool
-    ensures { Decides result (Has sent.now slip.now) }
+    ensures { Decides result (ContainsAt sent.now slip.now) }
 {
     for other in sent {
         if is_same(other, slip) {
@@ -30,7 +30,7 @@ fn is_among(sent: &[Slip], slip: &Slip) -> bool
 
 // Whether each of some slips is among others.
 fn are_among(slips: &[Slip], others: &[Slip]) -> bool
-    ensures { Decides result (All (Has others.now) slips.now) }
+    ensures { Decides result (AllByRecursion (ContainsAt others.now) slips.now) }
 {
     for slip in slips {
         if !is_among(others, slip) {

@@ -1,5 +1,5 @@
 -- What writing to a ring and going round it leave.
-use Rattle.std.proofs.Common.{◌≡◌, ℕ, ◌+◌, ◌-◌, ◌*◌, ◌<◌, ◌≤◌, true, ◌≢◌, List, [], ◌∷◌, ◌++◌, map, length, get_or, take, drop, set, is_ok, Some, Ok, Err, sym, ap, ◌∙◌, inl, inr, arith, rules, below_more}
+use Rattle.std.proofs.Common.{◌≡◌, ℕ, ◌+◌, ◌-◌, ◌*◌, ◌<◌, ◌≤◌, true, ◌≢◌, List, [], ◌∷◌, ◌++◌, map, length, get_or, take, drop, set, is_ok, None, Some, Ok, Err, sym, refl, ap, ◌∙◌, inl, inr, arith, rules, below_more}
 use Rattle.slip.specs.Bytes.{decode, slip_length}
 use Rattle.slip.specs.declared.fault.Fault.{Fault}
 use Rattle.slip.specs.declared.paper.Slip.{Slip}
@@ -136,3 +136,8 @@ module _ (bs : List ℕ) (n p c : ℕ) (inside : p < n) (some : 0 < c) (few : c 
       first : (xs ys : List Slip) (s : Slip) → 0 < length xs → get_or xs 0 s ≡ s → ys ≡ drop 1 xs → OldestFirst xs (Some s) ys
       first [] ys s l e r = absurd (omega arith)
       first (x ∷ xs) ys s l e r = (ap Some (sym e), r)
+
+-- an empty ring has none to take
+pub ring_empty : (xs : List Slip) → length xs ≡ 0 → OldestFirst xs None xs
+ring_empty [] h = (refl, refl)
+ring_empty (x ∷ xs) h = absurd (omega arith)

@@ -27,6 +27,7 @@ pub struct HalfSigned {
 // A form that both have signed. It is presented or voided: it cannot lapse.
 pub struct Signed {
     paper: Paper,
+    // a flag, and no type of its own: the drop that nobody may call has to require something that a form could be
     used: bool,
 }
 

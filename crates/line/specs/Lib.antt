@@ -1,3 +1,4 @@
 pub mod Models
 pub mod Making
+pub mod Sites
 pub mod Wires

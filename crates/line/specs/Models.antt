@@ -1,31 +1,30 @@
 -- A line as the rules speak of it.
-use Rattle.std.specs.Prelude.{ℕ, List, map, Ok, Err, vec_items, Result}
+use Rattle.std.specs.Prelude.{ℕ, List, Ok, Err, Result}
 use Rattle.form.specs.declared.Written.{Written}
 use Rattle.line.specs.declared.line.Line.{Line}
-use Rattle.book.specs.Books.{Admits}
 use Rattle.book.specs.declared.RuleBook.{Ghosts as BookGhosts}
 use Rattle.rules.specs.Ends.{Kept}
-use Rattle.rules.specs.Lines.{Form, Model, Outcome, at_end, with_end}
+use Rattle.rules.specs.Lines.{Form, Model, Outcome}
 use Rattle.rules.specs.Runs.{Setting}
 use Rattle.rules.specs.declared.answers.Answer.{Answer}
 use Rattle.rules.specs.declared.answers.Delivered.{Delivered}
 use Rattle.rules.specs.declared.answers.Sent.{Sent}
 use Rattle.rules.specs.declared.rows.Permission.{Permission}
 use Rattle.slip.specs.declared.fault.Fault.{Fault}
-use Rattle.slip.specs.declared.paper.Slip.{Slip}
 use Rattle.slip.specs.declared.paper.SlipKind.{SlipKind}
-use Rattle.slip.specs.declared.track.End.{End}
-use Rattle.station.specs.Records.{kept}
-use Rattle.wire.specs.Waiting.{Loses, Picks}
 use Rattle.wire.specs.declared.Wire.{Ghosts as WireGhosts}
 
 -- what its ends keep
 abbrev pub ends_of : {W B : Type 0} {w : WireGhosts W} {b : BookGhosts B} → Line W B w b → List Kept
-ends_of l = map kept (vec_items l.ends)
+ends_of l = l.ends.items
 
--- its ends, and what waits on a wire of this meaning
-abbrev pub model : {W B : Type 0} {w : WireGhosts W} {b : BookGhosts B} → (W → List Slip) → (W → ℕ) → Line W B w b → Model
-model waiting room l = record { ends = ends_of l; waiting = waiting l.wire.now; room = room l.wire.now }
+-- its ends, and what waits on its wire, by what such a wire means
+abbrev pub model : {W B : Type 0} {w : WireGhosts W} {b : BookGhosts B} → Line W B w b → Model
+model {w = w} l = record { ends = ends_of l; waiting = w.waiting l.wire.now; room = w.room l.wire.now }
+
+-- where it runs: under its book, over its wire
+abbrev pub setting : {W B : Type 0} {w : WireGhosts W} {b : BookGhosts B} → Line W B w b → Setting
+setting {w = w} {b = b} l = record { book = b.book; picks = w.picks; loses = w.loses }
 
 -- what a call answers, as one of the answers
 abbrev pub as_answer : {X : Type 0} → (X → Answer) → Result X Fault → Result Answer Fault
@@ -35,10 +34,6 @@ as_answer answer (Err fault) = Err fault
 -- an outcome's answer, and the line after it
 abbrev pub result_of : Outcome → Result Answer Fault × Model
 result_of o = (o.answer, o.after)
-
--- a move at one end of the line
-abbrev pub moved : {X : Type 0} → (Kept → X × Kept) → List Kept → ℕ → End → X × List Kept
-moved move ks block end = let done = move (at_end ks block end) in (done.0, with_end ks block end done.1)
 
 -- the answers of the calls, as one of the answers
 abbrev pub serial_answer : ℕ → Answer
@@ -58,10 +53,6 @@ delivered_answer delivered = Answer.Delivered delivered
 
 abbrev pub faded_answer : Unit {0} → Answer
 faded_answer unit = Answer.Faded
-
--- where a line runs: under its book, over its wire
-abbrev pub setting : ℕ → Admits → Picks → Loses → Setting
-setting limit admits picks loses = record { book = record { limit = limit; admits = admits }; picks = picks; loses = loses }
 
 -- what stands on a form that was written
 abbrev pub form_written : Result Written Fault → Result Form Fault

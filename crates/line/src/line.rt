@@ -12,7 +12,8 @@ mod opening;
 mod outcomes;
 mod sending;
 
-// The ends stand block by block, the west end before the east end. While the line lives, nothing else touches the wire.
+// The ends stand block by block, the west end before the east end: one list, since a station's refusals name its place in it.
+// While the line lives, nothing else touches the wire. It has no model: its clauses speak of the wire in the wire's own words.
 #[derive(Drop)]
 pub struct Line<'w, W: Wire, B: RuleBook> {
     ends: Vec<Station>,

@@ -1,44 +1,33 @@
--- Bytes spelled digit by digit.
-use Rattle.std.proofs.Common.{◌≡◌, ℕ, ◌+◌, ◌*◌, ◌<◌, List, [], ◌∷◌, ◌++◌, length, get_or, take, drop, set, Some, None, Option, sym, refl, ap, ◌∙◌, append-nil, arith}
-use Rattle.std.proofs.lemmas.List.{append_assoc, at_drop_more, drop_all, take_all, take_more_set}
-use Rattle.lineman.specs.Hex.{byte_of, bytes_of, digit, onto}
+-- What the library decodes from hexadecimal digits is what a line spells.
+use Rattle.hex.specs.Hex.{decode_pairs, decode_sized, digit_or_error, hex_digit_value, pair_value, ◌>>=◌}
+use Rattle.hex.specs.declared.error.FromHexError.{FromHexError}
+use Rattle.lineman.specs.Hex.{byte_of, bytes_of, digit, onto, spelled}
+use Rattle.std.proofs.Common.{◌≡◌, ℕ, ◌+◌, ◌*◌, List, [], ◌∷◌, Some, None, Ok, Err, Option, Result, refl, ◌∙◌, arith}
+use Rattle.std.proofs.lemmas.Bool.Decides.{nat_tests}
+use Rattle.std.specs.Result.{result_ok}
 
--- bytes that stand before those that the rest spells
-abbrev pub before : List ℕ → Option (List ℕ) → Option (List ℕ)
-before front None = None
-before front (Some rest) = Some (front ++ rest)
+digit_same : (c : ℕ) → hex_digit_value c ≡ digit c
+digit_same c = grind (arith, nat_tests)
 
-before_onto : (front : List ℕ) (b : ℕ) (rest : Option (List ℕ)) → before front (onto (Some b) rest) ≡ before (front ++ (b ∷ [])) rest
-before_onto front b None = refl
-before_onto front b (Some rest) = ap Some (sym (append_assoc front (b ∷ []) rest))
+-- either steps that may fail, or options put together
+of_digits : (a b i : ℕ) (high low : Option ℕ) → result_ok (digit_or_error a i high >>= (λ h. digit_or_error b (i + 1) low >>= (λ l. Ok (h * 16 + l)))) ≡ byte_of high low
+of_digits a b i None low = refl
+of_digits a b i (Some h) None = refl
+of_digits a b i (Some h) (Some l) = refl
 
--- the two digits at place i, and the digits after them
-two_more : (line : List ℕ) (i : ℕ) → 2 * i + 1 < length line → bytes_of (drop (2 * i) line) ≡ onto (byte_of (digit (get_or line (2 * i) 0)) (digit (get_or line (2 * i + 1) 0))) (bytes_of (drop (2 * (i + 1)) line))
-two_more line i h =
-    let a : ℕ = get_or line (2 * i) 0 in
-    let b : ℕ = get_or line (2 * i + 1) 0 in
-    let e : 2 * i + 1 + 1 ≡ 2 * (i + 1) = omega arith in
-    at_drop_more bytes_of line (2 * i) 0 (omega arith) ∙ at_drop_more (λ (rest : List ℕ). bytes_of (a ∷ rest)) line (2 * i + 1) 0 h
-    ∙ ap (λ (k : ℕ). onto (byte_of (digit a) (digit b)) (bytes_of (drop k line))) e
+of_bytes : (byte : Result ℕ FromHexError) (rest : Result (List ℕ) FromHexError) → result_ok (byte >>= (λ b. rest >>= (λ bs. Ok (b ∷ bs)))) ≡ onto (result_ok byte) (result_ok rest)
+of_bytes (Err e) rest = refl
+of_bytes (Ok b) (Err e) = refl
+of_bytes (Ok b) (Ok bs) = refl
 
-pub spell_start : (line : List ℕ) → bytes_of line ≡ before [] (bytes_of line)
-spell_start line = go (bytes_of line)
-  where
-    go : (o : Option (List ℕ)) → o ≡ before [] o
-    go None = refl
-    go (Some bs) = refl
+byte_same : (a b i : ℕ) → result_ok (pair_value a b i) ≡ byte_of (digit a) (digit b)
+byte_same a b i = of_digits a b i (hex_digit_value a) (hex_digit_value b) ∙ (λ j. byte_of (digit_same a j) (digit_same b j))
 
-pub spell_more : (line out : List ℕ) (i b : ℕ) (whole : Option (List ℕ)) → 2 * i + 1 < length line → i < length out → whole ≡ before (take i out) (bytes_of (drop (2 * i) line)) → Some b ≡ byte_of (digit (get_or line (2 * i) 0)) (digit (get_or line (2 * i + 1) 0))
-    → whole ≡ before (take (i + 1) (set out i b)) (bytes_of (drop (2 * (i + 1)) line))
-spell_more line out i b whole h l e s =
-    e ∙ ap (before (take i out)) (two_more line i h ∙ ap (λ (o : Option ℕ). onto o (bytes_of (drop (2 * (i + 1)) line))) (sym s))
-    ∙ before_onto (take i out) b (bytes_of (drop (2 * (i + 1)) line))
-    ∙ ap (λ (front : List ℕ). before front (bytes_of (drop (2 * (i + 1)) line))) (sym (take_more_set out i b l))
+bytes_same : (i : ℕ) (line : List ℕ) → result_ok (decode_pairs i line) ≡ bytes_of line
+unfolding decode_pairs
+bytes_same i [] = refl
+bytes_same i (a ∷ []) = refl
+bytes_same i (a ∷ (b ∷ rest)) = of_bytes (pair_value a b i) (decode_pairs (i + 2) rest) ∙ (λ j. onto (byte_same a b i j) (bytes_same (i + 2) rest j))
 
-pub spell_none : (line out : List ℕ) (i : ℕ) (whole : Option (List ℕ)) → 2 * i + 1 < length line → whole ≡ before (take i out) (bytes_of (drop (2 * i) line)) → None ≡ byte_of (digit (get_or line (2 * i) 0)) (digit (get_or line (2 * i + 1) 0)) → whole ≡ None
-spell_none line out i whole h e s =
-    e ∙ ap (before (take i out)) (two_more line i h ∙ ap (λ (o : Option ℕ). onto o (bytes_of (drop (2 * (i + 1)) line))) (sym s))
-
-pub spell_all : (line out : List ℕ) (n : ℕ) (whole : Option (List ℕ)) → length line ≡ 2 * n → length out ≡ n → whole ≡ before (take n out) (bytes_of (drop (2 * n) line)) → whole ≡ Some out
-spell_all line out n whole l m e =
-    e ∙ ap (λ (rest : List ℕ). before (take n out) (bytes_of rest)) (drop_all (2 * n) line (omega arith)) ∙ ap Some (append-nil (take n out) ∙ take_all n out (omega arith))
+pub spelled_same : (line : List ℕ) → result_ok (decode_sized line 10) ≡ spelled line
+spelled_same line = let same = bytes_same 0 line in grind (arith, nat_tests)

@@ -1,8 +1,8 @@
 // What a lineman writes and reads of slips: hexadecimal digits in, plain words out.
 #![tactic(auto)]
 
-mod hex;
+mod digits;
 mod tell;
 
-pub use hex::slip_on;
-pub use tell::{line_report, told};
+pub use digits::slip_on;
+pub use tell::LineReport;

@@ -1,74 +1,24 @@
-// What the lineman reads of a slip and of a refusal.
-ghost use Rattle.std.specs.Prelude.{◌≡◌, IfOk, string_bytes};
-ghost use Rattle.lineman.specs.Words.{end_word, kind_word, line_text, slip_text};
+// What the lineman reads of a line.
+ghost use Rattle.lineman.specs.Words.{line_words};
+ghost use Rattle.std.specs.Prelude.{Some};
 
-use slip::{End, Fault, Message, Slip, SlipKind};
-use std::alloc::{AllocError, Global};
+use slip::{Fault, Slip};
+use std::fmt;
 
-fn kind_name(kind: SlipKind) -> &'static str
-    ensures { result.now ≡ kind_word kind }
-{
-    match kind {
-        SlipKind::Wanted => "WANTED",
-        SlipKind::Clear => "CLEAR",
-        SlipKind::Permissive => "PERMISSIVE",
-        SlipKind::NotClear => "NOT CLEAR",
-        SlipKind::Entered => "ENTERED",
-        SlipKind::Out => "OUT",
-        SlipKind::Withdraw => "WITHDRAW",
-        SlipKind::Released => "RELEASED",
-    }
+// What became of a line: the slip that was put, or why it was refused.
+#[derive(Clone, Copy, PartialEq, Eq, Debug)]
+pub struct LineReport {
+    pub line: usize,
+    pub answer: Result<Slip, Fault>,
 }
 
-fn end_name(end: End) -> &'static str
-    ensures { result.now ≡ end_word end }
-{
-    match end {
-        End::West => "west",
-        End::East => "east",
-    }
-}
+impl fmt::Display for LineReport {
+    ghost output = { λ report. Some (line_words report.line report.answer) };
 
-// A slip in plain words.
-pub fn told(heap: Global, slip: &Slip) -> Result<String, AllocError>
-    ensures { IfOk result (λ t. string_bytes t ≡ slip_text slip.now) }
-{
-    let kind = kind_name(slip.message.kind());
-    let block = slip.block;
-    let end = end_name(slip.to);
-    let serial = slip.serial;
-    match slip.message {
-        Message::Wanted { train, class } => {
-            let number = train.number;
-            let letter = class.letter() as char;
-            format!(in heap;
-                "{kind}, block {block}, to {end}, train {number}, class {letter}, serial {serial}"
-            )
-        }
-        _ => format!(in heap; "{kind}, block {block}, to {end}, serial {serial}"),
-    }
-}
-
-// What became of a line.
-pub fn line_report(
-    heap: Global,
-    line: usize,
-    answer: Result<Slip, Fault>,
-) -> Result<String, AllocError>
-    ensures { IfOk result (λ t. string_bytes t ≡ line_text line answer) }
-{
-    match answer {
-        Ok(slip) => {
-            let text = told(heap, &slip)?;
-            format!(in heap; "line {line}: put {text}\n")
-        }
-        Err(fault) => {
-            let number = fault.number;
-            let layer = fault.layer;
-            let place = fault.place;
-            format!(in heap;
-                "line {line}: refused: number {number}, layer {layer}, place {place}\n"
-            )
+    fn fmt<W: fmt::Write>(&self, f: &mut fmt::Formatter<W>) -> fmt::Result {
+        match self.answer {
+            Ok(slip) => write!(f, "line {}: put {slip}", self.line),
+            Err(fault) => write!(f, "line {}: refused: {fault}", self.line),
         }
     }
 }

@@ -1,10 +1,7 @@
 -- Where a list of bytes has its first mark.
-use Rattle.std.specs.Prelude.{ℕ, suc, cond, List, [], ◌∷◌, ◌==◌}
+use Rattle.std.specs.Prelude.{ℕ, List, ◌==◌}
+use Rattle.std.specs.List.{position_or_len}
 
--- the place of the first mark, counted from i; where there is none, the end
-abbrev pub span_from : ℕ → ℕ → List ℕ → ℕ
-span_from i mark [] = i
-span_from i mark (b ∷ bs) = cond (b == mark) i (span_from (suc i) mark bs)
-
+-- the place of the first mark; where there is none, the end
 abbrev pub span : ℕ → List ℕ → ℕ
-span mark bs = span_from 0 mark bs
+span mark bs = position_or_len (λ b. b == mark) bs

@@ -1,18 +1,22 @@
--- Looking for an element from the first on.
-use Rattle.std.proofs.Common.{◌≡◌, ℕ, ◌+◌, ◌<◌, ◌≤◌, List, length, get_or, ◌∙◌, arith, below_more}
-use Rattle.std.proofs.lemmas.List.{get_or_default}
-use Rattle.std.specs.List.{ContainsAt}
+-- Whether slips are among others.
+use Rattle.slip.specs.contracts.paper.SlipPartialEq.TheImpl.{ghosts}
+use Rattle.slip.specs.declared.paper.Slip.{Slip}
+use Rattle.std.proofs.Common.{◌≡◌, Bool, List, Decides, refl, arith}
+use Rattle.std.proofs.lemmas.Bool.Decides.{Decides-by_and, Decides-by_or}
+use Rattle.std.proofs.lemmas.Grind.{common_steps}
+use Rattle.std.proofs.lemmas.List.Elements.{Decides-contains}
+use Rattle.std.specs.List.{All, Contains, list_all, list_any}
 
-module _ {X : Type 0} (xs : List X) (x : X) where
-  -- none of the first i is x
-  abbrev pub NoneBelow : ℕ → Type 0
-  NoneBelow i = (k : ℕ) → k < i → (d : X) → get_or xs k d ≡ x → ⊥
+same : (one other : Slip) → Decides (ghosts.eq one other) (one ≡ other)
+same one other = grind (arith, common_steps)
 
-  pub found : (i : ℕ) (d : X) → i < length xs → get_or xs i d ≡ x → ContainsAt xs x
-  found i d h e = (i, h, λ d'. get_or_default xs i d' d h ∙ e)
+abbrev pub is_among : List Slip → Slip → Bool
+is_among others slip = list_any (λ other. ghosts.eq other slip) others
 
-  pub none_more : (i : ℕ) (d : X) → i < length xs → NoneBelow i → (get_or xs i d ≡ x → ⊥) → NoneBelow (i + 1)
-  none_more i d h none not = below_more (λ k. (d : X) → get_or xs k d ≡ x → ⊥) i none (λ d' e. not (get_or_default xs i d d' h ∙ e))
+among : (others : List Slip) (slip : Slip) → Decides (is_among others slip) (Contains others slip)
+among others slip =
+    Decides-contains others slip (is_among others slip)
+    (Decides-by_or (λ other. ghosts.eq other slip) (λ other. other ≡ slip) (list_any (λ other. ghosts.eq other slip)) (λ other. same other slip) refl (λ _ _. refl) others)
 
-  pub none_at_all : (i : ℕ) → length xs ≤ i → NoneBelow i → ContainsAt xs x → ⊥
-  none_at_all i h none has = none has.0 (omega (arith, has.1)) x (has.2 x)
+pub all_among : (slips others : List Slip) → Decides (list_all (is_among others) slips) (All (Contains others) slips)
+all_among slips others = Decides-by_and (is_among others) (Contains others) (list_all (is_among others)) (among others) refl (λ _ _. refl) slips

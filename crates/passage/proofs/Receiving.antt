@@ -1,10 +1,10 @@
 -- Slips that are taken one after the other: what their loop keeps, and what a lawful wire hands out.
-use Rattle.std.proofs.Common.{◌≡◌, ℕ, ◌+◌, ◌≤◌, List, [], ◌∷◌, ◌++◌, length, Some, None, sym, refl, ap, ◌∙◌, subst, inl, inr, arith, length-append}
-use Rattle.passage.specs.Reports.{TakenAll, came_told, taken_text}
+use Rattle.std.proofs.Common.{◌≡◌, ℕ, ◌+◌, List, [], ◌∷◌, ◌++◌, length, Some, sym, refl, ap, ◌∙◌, subst, inl, inr, arith, length-append}
+use Rattle.passage.specs.Reports.{came_told, taken_text}
 use Rattle.passage.specs.Takes.{AsWritten, Came}
 use Rattle.slip.specs.declared.paper.Slip.{Slip}
-use Rattle.std.proofs.ByRecursion.{all_has_itself}
-use Rattle.std.specs.List.{ContainsAt, AllByRecursion}
+use Rattle.std.proofs.lemmas.List.Elements.{All-contains_itself, All-from_recursion, recursion_from_All}
+use Rattle.std.specs.List.{AllByRecursion, Contains}
 use Rattle.wire.specs.Waiting.{LawfulPicks, Picks, Taken}
 
 -- of ws these came and ws' wait; `text'` is told, after `text`
@@ -28,16 +28,6 @@ module _ {picks : Picks} {ws : List Slip} {text : List ℕ} {came ws' : List Sli
     counted = simp length-append (omega (arith, old.counted));
     told = t ∙ ap (λ (bs : List ℕ). bs ++ taken_text s) old.told ∙ sym (told_more text came s);
   })
-
-  -- a wire that hands out nothing has nothing left
-  pub emptied : LawfulPicks picks → (most : ℕ) (left : List Slip) → picks ws' None left → count ≤ most → TakenAll picks most ws text came left text'
-  emptied lawful most left pick few =
-      let none = lawful ws' None left pick in
-      record { taken = rw none.1 old.taken; few = omega (arith, old.counted); emptied = λ h. none.1 ∙ none.0; told = old.told }
-
-  -- as many were taken as allowed
-  pub allowed : (most : ℕ) → count ≡ most → TakenAll picks most ws text came ws' text'
-  allowed most e = record { taken = old.taken; few = omega (arith, old.counted); emptied = λ h. absurd (omega (arith, old.counted)); told = old.told }
 
 -- WHAT A LAWFUL WIRE HANDS OUT
 
@@ -70,6 +60,6 @@ module _ {picks : Picks} (lawful : LawfulPicks picks) (P : Slip → Type 0) wher
 -- so where nothing is left, what came is what waited
 pub came_as_written : {picks : Picks} → LawfulPicks picks → (ws came left : List Slip) → Came picks ws came left → left ≡ [] → AsWritten ws came
 came_as_written lawful ws came left c e = record {
-  none_strange = all_that_came lawful (ContainsAt ws) ws came left c (all_has_itself ws);
-  none_lost = all_that_waited lawful (ContainsAt came) ws came left c (all_has_itself came) (rw e tt);
+  none_strange = All-from_recursion (Contains ws) came (all_that_came lawful (Contains ws) ws came left c (recursion_from_All (Contains ws) ws (All-contains_itself ws)));
+  none_lost = All-from_recursion (Contains came) ws (all_that_waited lawful (Contains came) ws came left c (recursion_from_All (Contains came) came (All-contains_itself came)) (rw e tt));
 }

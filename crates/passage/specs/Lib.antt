@@ -1,3 +1,4 @@
 pub mod Posts
 pub mod Takes
+pub mod Totals
 pub mod Reports

@@ -1,8 +1,11 @@
 -- What the lineman is told of a wire.
-use Rattle.std.specs.Prelude.{◌≡◌, ℕ, ◌+◌, ◌-◌, ◌<◌, ◌≤◌, Bool, true, false, List, [], ◌∷◌, ◌++◌, length, codes, decimal, Decides}
-use Rattle.lineman.specs.Words.{line_text, slip_text}
+use Rattle.std.specs.Prelude.{◌≡◌, ℕ, ◌+◌, ◌<◌, ◌≤◌, true, List, [], ◌∷◌, ◌++◌, length, codes, Decides}
+use Rattle.lineman.specs.Words.{line_text}
 use Rattle.passage.specs.Posts.{posted, put_by, slips_put}
 use Rattle.passage.specs.Takes.{AsWritten, Came}
+use Rattle.passage.specs.Totals.{totals_words}
+use Rattle.passage.specs.declared.totals.Totals.{Totals}
+use Rattle.slip.specs.Words.{slip_text}
 use Rattle.slip.specs.declared.paper.Slip.{Slip}
 use Rattle.wire.specs.Waiting.{Picks}
 
@@ -26,24 +29,17 @@ pub record TakenAll (picks : Picks) (most : ℕ) (ws : List Slip) (text : List �
   pub emptied : length came < most → left ≡ []
   pub told : text' ≡ came_told text came
 
-abbrev pub verdict : Bool → List ℕ
-verdict true = codes "each came as it was written"
-verdict false = codes "not each came as it was written"
-
--- how many slips were put, how many lines refused, how many slips taken, and the verdict
-abbrev pub totals : ℕ → ℕ → ℕ → Bool → List ℕ
-totals put refused taken faithful =
-    decimal put ++ (codes " put, " ++ (decimal refused ++ (codes " refused, " ++ (decimal taken ++ (codes " taken: " ++ (verdict faithful ++ codes "\n"))))))
-
--- A wire of this room, on which ws wait, is tried with these lines and at most so many takes: what is left, and the report.
-pub record Tried (picks : Picks) (room most : ℕ) (name : List ℕ) (lines : List (List ℕ)) (ws left : List Slip) (report : List ℕ) : Type 0 where
+-- A wire of this room, on which ws wait, is tried with these lines and at most so many takes: what is left, the totals, and the report.
+pub record Tried (picks : Picks) (room most : ℕ) (name : List ℕ) (lines : List (List ℕ)) (ws left : List Slip) (totals : Totals) (report : List ℕ) : Type 0 where
   pub came : List Slip
   pub text : List ℕ
   -- the name, every line, and every slip that came
   pub received : TakenAll picks most (ws ++ slips_put room ws lines) (lines_told room (name ++ codes "\n") 1 ws lines) came left text
-  -- then the totals and the verdict
-  pub faithful : Bool
-  pub judged : Decides faithful (AsWritten (slips_put room ws lines) came)
-  pub told : report ≡ text ++ totals (length (slips_put room ws lines)) (length lines - length (slips_put room ws lines)) (length came) faithful
+  -- then the totals and the verdict; each line is put or refused
+  pub put : totals.put ≡ length (slips_put room ws lines)
+  pub counted : totals.put + totals.refused ≡ length lines
+  pub taken : totals.taken ≡ length came
+  pub judged : Decides totals.faithful (AsWritten (slips_put room ws lines) came)
+  pub told : report ≡ text ++ (totals_words totals ++ codes "\n")
   -- over every wire that is silent before and after, each slip came as it was written
-  pub silent : ws ≡ [] → left ≡ [] → faithful ≡ true
+  pub silent : ws ≡ [] → left ≡ [] → totals.faithful ≡ true

@@ -3,6 +3,8 @@
 
 mod post;
 mod receive;
+mod totals;
 mod trial;
 
-pub use trial::try_wire;
+pub use totals::Totals;
+pub use trial::{Trial, try_wire};

@@ -2,9 +2,9 @@
 ghost use Rattle.lines.specs.Lines.{lines_of};
 ghost use Rattle.passage.specs.Posts.{posted, put_by, slips_put};
 ghost use Rattle.passage.specs.Reports.{lines_told};
-ghost use Rattle.std.specs.Prelude.{◌≡◌, false, ◌++◌, length, is_ok, IfOk, string_bytes, OnOk};
+ghost use Rattle.std.specs.Prelude.{◌≡◌, ◌+◌, false, ◌++◌, length, is_ok, IfOk, string_bytes, vec_len};
 
-use lineman::{line_report, slip_on};
+use lineman::{LineReport, slip_on};
 use lines::Lines;
 use slip::{Fault, Slip};
 use std::alloc::{AllocError, Global};
@@ -22,21 +22,11 @@ fn post<W: Wire>(wire: &mut W, line: &[u8]) -> Result<Slip, Fault>
     Ok(slip)
 }
 
-// Keeps a slip that was put.
-fn keep(sent: &mut Vec<Slip>, answer: Result<Slip, Fault>) -> Result<(), AllocError>
-    ensures { OnOk result (sent.new.items ≡ sent.old.items ++ put_by answer) }
-{
-    if let Ok(slip) = answer {
-        sent.push(slip)?;
-    }
-    Ok(())
-}
-
-// What became of the lines: the slips that were put, in their order, and how many lines there were.
+// What became of the lines: the slips that were put, in their order, and how many lines were refused.
 #[derive(Drop)]
 pub(crate) struct Posted {
     pub(crate) sent: Vec<Slip>,
-    pub(crate) lines: usize,
+    pub(crate) refused: usize,
 }
 
 // Puts what every line says, and reports on each.
@@ -48,21 +38,19 @@ pub(crate) fn post_all<W: Wire>(
 ) -> Result<Posted, AllocError>
     ensures sent { IfOk result (λ p. p.sent.items ≡ slips_put (W.room wire.old) (W.waiting wire.old) (lines_of input.now)) }
     ensures waits { IfOk result (λ p. W.waiting wire.new ≡ W.waiting wire.old ++ p.sent.items) }
-    ensures lines { IfOk result (λ p. p.lines ≡ length (lines_of input.now)) }
+    ensures lines { IfOk result (λ p. vec_len p.sent + p.refused ≡ length (lines_of input.now)) }
     ensures told { IfOk result (λ p. string_bytes report.new ≡ lines_told (W.room wire.old) (string_bytes report.old) 1 (W.waiting wire.old) (lines_of input.now)) }
 {
     let mut sent = Vec::new(heap);
-    let mut number = 0usize;
-    let mut lines = Lines::new(input);
-    while let Some(line) = lines.next_line() {
-        number += 1;
-        let answer = post(wire, line);
-        let entry = line_report(heap, number, answer)?;
-        report.push_str(entry.as_str())?;
-        keep(&mut sent, answer)?;
+    let mut refused = 0usize; // counted, since the lines are not kept
+    for (index, text) in Lines::new(input).enumerate() {
+        let line = index + 1;
+        let answer = post(wire, text);
+        writeln!(report, "{}", LineReport { line, answer })?;
+        match answer {
+            Ok(slip) => sent.push(slip)?,
+            Err(_) => refused += 1,
+        }
     }
-    Ok(Posted {
-        sent,
-        lines: number,
-    })
+    Ok(Posted { sent, refused })
 }

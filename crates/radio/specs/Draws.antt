@@ -1,19 +1,16 @@
 -- What a radio draws: which slip it picks, and whether the slip stays.
-use Rattle.std.specs.Prelude.{ℕ, ◌+◌, ◌%◌, Bool, cond, List, length, Option, ◌==◌, nat_le, nat_lt, slice_index}
+use Rattle.std.specs.Prelude.{ℕ, ◌%◌, Bool, cond, List, [], ◌∷◌, length, drop, Option, nat_le, slice_index}
 use Rattle.slip.specs.declared.paper.Slip.{Slip}
 use Rattle.std.specs.List.{remove, slice_get}
 
--- the next byte, or 0 when none is left
-abbrev pub next_byte : List ℕ → ℕ → ℕ
-next_byte draws used = slice_index draws used
-
--- how many bytes are used once one more was asked for
-abbrev pub one_more : List ℕ → ℕ → ℕ
-one_more draws used = cond (nat_lt used (length draws)) (used + 1) used
+-- the next of the bytes that are left to draw, or 0 when none is left
+abbrev pub next_byte : List ℕ → ℕ
+next_byte draws = slice_index draws 0
 
 -- a take or a fade uses a byte only where something waits
-abbrev pub used_after : List Slip → List ℕ → ℕ → ℕ
-used_after ws draws used = cond (length ws == 0) used (one_more draws used)
+abbrev pub draws_after : List Slip → List ℕ → List ℕ
+draws_after [] draws = draws
+draws_after (w ∷ ws) draws = drop 1 draws
 
 -- the place that byte v picks, the oldest being 0
 abbrev pub pick : List Slip → ℕ → ℕ

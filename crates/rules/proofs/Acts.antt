@@ -23,7 +23,7 @@ use Rattle.rules.specs.declared.rows.Permission.{Permission}
 use Rattle.rules.specs.declared.rows.PromisedRow.{PromisedRow}
 use Rattle.rules.specs.declared.rows.RowState.{RowState}
 use Rattle.rules.specs.declared.rows.RowState.TheVariants.{Asking, Held, In, Withdrawing}
-use Rattle.rules.specs.declared.rows.Signal.{Signal}
+use Rattle.rules.specs.Ends.{Signal}
 use Rattle.rules.specs.declared.rows.Word.{Word}
 use Rattle.slip.specs.Trains.{same_train}
 use Rattle.slip.specs.declared.fault.Fault.{Fault}
@@ -63,7 +63,7 @@ module _ (b : Book) (x y : Kept) (τ : Tallies) (g : Good b x y τ) (ox : Orderl
 
   -- withdraw
 
-  withdraw_each : (r : OwnRow) → newest x.own ≡ Some r → is_withdrawing (withdrawing 0 r.state) ≡ true → After b x y (with_own x (map (restate withdrawing) x.own) Signal.Stop) (Some (word Message.Withdraw r.serial)) τ
+  withdraw_each : (r : OwnRow) → newest x.own ≡ Some r → is_withdrawing (withdrawing 0 r.state) ≡ true → After b x y (with_own x (map (restate withdrawing) x.own) None) (Some (word Message.Withdraw r.serial)) τ
   withdraw_each r e h = record {
     good = record {
       asks = withdraw_rows x.own x.used y.promised y.heard g.asks;
@@ -89,8 +89,8 @@ module _ (b : Book) (x y : Kept) (τ : Tallies) (g : Good b x y τ) (ox : Orderl
       turn : (s : ℕ) (st : RowState) → is_withdrawing (withdrawing 0 st) ≡ true → is_withdrawing (withdrawing s st) ≡ true
       turn s st h = grind arith
 
-  withdraws : (r : OwnRow) → newest x.own ≡ Some r → withdrawing r.serial r.state ≡ Withdrawing → After b x y (with_own x (newest_to x r Withdrawing) Signal.Stop) (Some (word Message.Withdraw r.serial)) τ
-  withdraws r e z = subst (λ (l : List OwnRow). After b x y (with_own x l Signal.Stop) (Some (word Message.Withdraw r.serial)) τ)
+  withdraws : (r : OwnRow) → newest x.own ≡ Some r → withdrawing r.serial r.state ≡ Withdrawing → After b x y (with_own x (newest_to x r Withdrawing) None) (Some (word Message.Withdraw r.serial)) τ
+  withdraws r e z = subst (λ (l : List OwnRow). After b x y (with_own x l None) (Some (word Message.Withdraw r.serial)) τ)
       (sym (renewed_map withdrawing (λ s k. refl) x.own r Withdrawing ox.rules.own_order e z)) (withdraw_each r e (turn r.serial r.state z))
     where
       turn : (s : ℕ) (st : RowState) → withdrawing s st ≡ Withdrawing → is_withdrawing (withdrawing 0 st) ≡ true
@@ -122,7 +122,7 @@ module _ (b : Book) (x y : Kept) (τ : Tallies) (g : Good b x y τ) (ox : Orderl
   -- enter and present
 
   go_in_ok : (h : HeldRow) (t : Train) → held x ≡ Some h → same_train h.row.train t ≡ true → DoneWell b x y (enter_by t τ) (go_in_lem x h)
-  go_in_ok h t e m = subst (λ (l : List OwnRow). After b x y (with_own x l Signal.Stop) (Some (word Message.Entered h.row.serial)) (enter_by t τ))
+  go_in_ok h t e m = subst (λ (l : List OwnRow). After b x y (with_own x l None) (Some (word Message.Entered h.row.serial)) (enter_by t τ))
       (sym (renewed_map going_in (λ s k. refl) x.own h.row (In h.permission) ox.rules.own_order is.newest (rw is.state))) each
     where
       is : IsHeld x h
@@ -137,7 +137,7 @@ module _ (b : Book) (x y : Kept) (τ : Tallies) (g : Good b x y τ) (ox : Orderl
       low : (q : ℕ) (st : RowState) → is_held st ≡ true → RowOk y.heard y.promised q st → q ≤ y.heard
       low q st z o = grind arith
 
-      each : After b x y (with_own x (map (restate going_in) x.own) Signal.Stop) (Some (word Message.Entered h.row.serial)) (enter_by t τ)
+      each : After b x y (with_own x (map (restate going_in) x.own) None) (Some (word Message.Entered h.row.serial)) (enter_by t τ)
       each = record {
         good = record {
           asks = enter_rows x.own x.used y.promised y.heard g.asks;

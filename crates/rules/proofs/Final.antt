@@ -19,7 +19,7 @@ use Rattle.rules.specs.declared.rows.OwnRow.{OwnRow}
 use Rattle.rules.specs.declared.rows.Permission.{Permission}
 use Rattle.rules.specs.declared.rows.PromisedRow.{PromisedRow}
 use Rattle.rules.specs.declared.rows.RowState.{RowState}
-use Rattle.rules.specs.declared.rows.Signal.{Signal}
+use Rattle.rules.specs.Ends.{Signal}
 use Rattle.slip.specs.Trains.{same_train}
 use Rattle.slip.specs.declared.track.Train.{Train}
 
@@ -91,9 +91,9 @@ module _ (b : Book) (x y : Kept) (τ : Tally) (o : Orderly x) (i : Rows x.own x.
       clash st e z = grind arith
 
   backed_signal : (n : Option OwnRow) → newest x.own ≡ n → (g : Signal) → Shows n g → BackedSignal τ n g
-  backed_signal n e Signal.Stop h = tt
-  backed_signal None e (Signal.Off k) h = absurd h
-  backed_signal (Some r) e (Signal.Off k) h = (h, held_promise k r (newest_any x.own r e) h)
+  backed_signal n e None h = tt
+  backed_signal None e (Some k) h = absurd h
+  backed_signal (Some r) e (Some k) h = (h, held_promise k r (newest_any x.own r e) h)
 
   pub way : Way b x y τ
   way = record {

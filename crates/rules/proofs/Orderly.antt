@@ -12,7 +12,7 @@ use Rattle.rules.specs.declared.rows.Permission.{Permission}
 use Rattle.rules.specs.declared.rows.PromisedRow.{PromisedRow}
 use Rattle.rules.specs.declared.rows.RowState.{RowState}
 use Rattle.rules.specs.declared.rows.RowState.TheVariants.{Asking, Held, In, Withdrawing}
-use Rattle.rules.specs.declared.rows.Signal.{Signal}
+use Rattle.rules.specs.Ends.{Signal}
 use Rattle.rules.specs.declared.rows.Word.{Word}
 use Rattle.slip.specs.Trains.{same_train}
 use Rattle.slip.specs.declared.track.Class.{Class}
@@ -28,16 +28,16 @@ pub idle_orderly : (start : ℕ) → Orderly (idle start)
 idle_orderly start = record { rules = record { own_order = tt; own_few = omega arith; promised_order = tt; promised_few = omega arith; signal = tt }; used = tt; heard = tt }
 
 -- a signal stands at Stop unless the newest row is Held
-pub stops : (k : Kept) (r : OwnRow) → newest k.own ≡ Some r → ((kind : Permission) → r.state ≡ Held kind → ⊥) → Orderly k → k.signal ≡ Signal.Stop
+pub stops : (k : Kept) (r : OwnRow) → newest k.own ≡ Some r → ((kind : Permission) → r.state ≡ Held kind → ⊥) → Orderly k → k.signal ≡ None
 stops k r e n o = go k.signal (subst (λ (x : Option OwnRow). Shows x k.signal) e o.rules.signal)
   where
-    go : (g : Signal) → Shows (Some r) g → g ≡ Signal.Stop
-    go Signal.Stop h = refl
-    go (Signal.Off kind) h = absurd (n kind h)
+    go : (g : Signal) → Shows (Some r) g → g ≡ None
+    go None h = refl
+    go (Some kind) h = absurd (n kind h)
 
-empty_stops : (own : List OwnRow) (g : Signal) → newest own ≡ None → Shows (newest own) g → g ≡ Signal.Stop
-empty_stops own Signal.Stop e h = refl
-empty_stops own (Signal.Off kind) e h = absurd (subst (λ (x : Option OwnRow). Shows x (Signal.Off kind)) e h)
+empty_stops : (own : List OwnRow) (g : Signal) → newest own ≡ None → Shows (newest own) g → g ≡ None
+empty_stops own None e h = refl
+empty_stops own (Some kind) e h = absurd (subst (λ (x : Option OwnRow). Shows x (Some kind)) e h)
 
 -- own rows change
 
@@ -50,7 +50,7 @@ still_in g h s (Held k) e = absurd (grind (arith, e))
 still_in g h s (In k) e = rw (h s k)
 still_in g h s Withdrawing e = absurd (grind (arith, e))
 
-changed : (k : Kept) (g : ℕ → RowState → RowState) → InStays g → Orderly k → Orderly (with_own k (map (restate g) k.own) Signal.Stop)
+changed : (k : Kept) (g : ℕ → RowState → RowState) → InStays g → Orderly k → Orderly (with_own k (map (restate g) k.own) None)
 changed k g h o = record {
   rules = record {
     own_order = pairs_map Older Older (restate g) (λ r q b. record { serial = b.serial; gone_in = still_in g h r.serial r.state b.gone_in; train = b.train }) k.own o.rules.own_order;
@@ -64,8 +64,8 @@ changed k g h o = record {
 }
 
 -- the newest row changes, and the signal stands at Stop
-pub renewed_orderly : (k : Kept) (g : ℕ → RowState → RowState) → InStays g → (r : OwnRow) (st : RowState) → newest k.own ≡ Some r → g r.serial r.state ≡ st → Orderly k → Orderly (with_own k (newest_to k r st) Signal.Stop)
-renewed_orderly k g h r st e f o = subst (λ (l : List OwnRow). Orderly (with_own k l Signal.Stop)) (sym (renewed_map g h k.own r st o.rules.own_order e f)) (changed k g h o)
+pub renewed_orderly : (k : Kept) (g : ℕ → RowState → RowState) → InStays g → (r : OwnRow) (st : RowState) → newest k.own ≡ Some r → g r.serial r.state ≡ st → Orderly k → Orderly (with_own k (newest_to k r st) None)
+renewed_orderly k g h r st e f o = subst (λ (l : List OwnRow). Orderly (with_own k l None)) (sym (renewed_map g h k.own r st o.rules.own_order e f)) (changed k g h o)
 
 pub fewer : (k : Kept) (t : OwnRow → Bool) (g : Signal) → Shows (newest (keeping t k.own)) g → Orderly k → Orderly (with_own k (keeping t k.own) g)
 fewer k t g h o = record {
@@ -101,13 +101,13 @@ everyone_in [] p e = tt
 everyone_in (r ∷ []) p e = (e, tt)
 everyone_in (r ∷ (q ∷ rs)) p e = (p.0.0.gone_in, everyone_in (q ∷ rs) p.1 e)
 
-ask_stops : (k : Kept) → all_in (newest k.own) ≡ true → Orderly k → k.signal ≡ Signal.Stop
+ask_stops : (k : Kept) → all_in (newest k.own) ≡ true → Orderly k → k.signal ≡ None
 ask_stops k e o = go (newest k.own) refl
   where
     not_held : (st : RowState) → is_in_lem st ≡ true → (kind : Permission) → st ≡ Held kind → ⊥
     not_held st h kind z = grind arith
 
-    go : (x : Option OwnRow) → newest k.own ≡ x → k.signal ≡ Signal.Stop
+    go : (x : Option OwnRow) → newest k.own ≡ x → k.signal ≡ None
     go None z = empty_stops k.own k.signal z o.rules.signal
     go (Some r) z = stops k r z (not_held r.state (subst (λ (x : Option OwnRow). all_in x ≡ true) z e)) o
 

@@ -14,7 +14,7 @@ use Rattle.rules.specs.declared.rows.Permission.{Permission}
 use Rattle.rules.specs.declared.rows.PromisedRow.{PromisedRow}
 use Rattle.rules.specs.declared.rows.RowState.TheVariants.{Asking, Held, In, Withdrawing}
 use Rattle.rules.specs.declared.rows.RowState.{RowState}
-use Rattle.rules.specs.declared.rows.Signal.{Signal}
+use Rattle.rules.specs.Ends.{Signal}
 use Rattle.slip.specs.Numbers.{class_letter_lem}
 use Rattle.slip.specs.declared.paper.Message.{Message}
 use Rattle.slip.specs.declared.track.Class.{Class}
@@ -62,8 +62,8 @@ out_keeping s own p = first_keeping (own_in s) own (pairs_weaker Older _ (λ r q
 
 -- the signal, where a row In goes
 out_shows : (k : Kept) (s : ℕ) (g : Signal) → Shows (newest k.own) g → Shows (newest (keeping (leaves s is_in_lem) k.own)) g
-out_shows k s Signal.Stop h = tt
-out_shows k s (Signal.Off kind) h = go (newest k.own) refl h
+out_shows k s None h = tt
+out_shows k s (Some kind) h = go (newest k.own) refl h
   where
     stays : (q : ℕ) (st : RowState) → st ≡ Held kind → not (eqb q s && is_in_lem st) ≡ true
     stays q st e = grind arith

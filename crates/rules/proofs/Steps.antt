@@ -21,10 +21,10 @@ use Rattle.rules.specs.declared.calls.Call.{Call}
 use Rattle.rules.specs.declared.rows.Heard.{Heard}
 use Rattle.rules.specs.declared.rows.HeldRow.{HeldRow}
 use Rattle.rules.specs.declared.rows.Permission.{Permission}
-use Rattle.rules.specs.declared.rows.Signal.{Signal}
 use Rattle.rules.specs.declared.rows.Word.{Word}
 use Rattle.slip.specs.Numbers.{class_of, end_of, message_kind, other_end}
 use Rattle.slip.specs.Trains.{known_train_lem}
+use Rattle.slip.specs.declared.fault.Cause.{Cause}
 use Rattle.slip.specs.declared.fault.Fault.{Fault}
 use Rattle.slip.specs.declared.paper.Message.{Message}
 use Rattle.slip.specs.declared.paper.Slip.{Slip}
@@ -86,12 +86,12 @@ pub record MayAsk (k : Kept) (t : Train) (serial : ℕ) : Type 0 where
 
 pub may_ask : (place : ℕ) (t : Train) (k : Kept) (serial : ℕ) → next_serial_lem place t k ≡ Ok serial → MayAsk k t serial
 may_ask place t k serial h =
-    test (is_empty k.promised) _ (Err (station_fault 2 place)) R (λ a.
-    test (all_in (newest k.own)) _ (Err (station_fault 3 place)) R (λ s.
-    test (leb 4 (length k.own)) (Err (station_fault 4 place)) _ R (λ z w. absurd (err_ok (station_fault 4 place) serial w)) (λ f.
-    test (is_some (find (own_of_train t) k.own)) (Err (station_fault 5 place)) _ R (λ z w. absurd (err_ok (station_fault 5 place) serial w)) (λ n.
-    test (leb last_serial k.used) (Err (station_fault 6 place)) (Ok (k.used + 1)) R (λ z w. absurd (err_ok (station_fault 6 place) serial w)) (λ z w.
-    record { alone = a; settled = s; room = leb-false 4 (length k.own) f; new = n; next = cc })))) (λ z w. absurd (err_ok (station_fault 3 place) serial w))) (λ z w. absurd (err_ok (station_fault 2 place) serial w)) h
+    test (is_empty k.promised) _ (Err (station_fault Cause.HasPromised place)) R (λ a.
+    test (all_in (newest k.own)) _ (Err (station_fault Cause.RowOpen place)) R (λ s.
+    test (leb 4 (length k.own)) (Err (station_fault Cause.RowsFull place)) _ R (λ z w. absurd (err_ok (station_fault Cause.RowsFull place) serial w)) (λ f.
+    test (is_some (find (own_of_train t) k.own)) (Err (station_fault Cause.TrainHasRow place)) _ R (λ z w. absurd (err_ok (station_fault Cause.TrainHasRow place) serial w)) (λ n.
+    test (leb last_serial k.used) (Err (station_fault Cause.SerialsUsedUp place)) (Ok (k.used + 1)) R (λ z w. absurd (err_ok (station_fault Cause.SerialsUsedUp place) serial w)) (λ z w.
+    record { alone = a; settled = s; room = leb-false 4 (length k.own) f; new = n; next = cc })))) (λ z w. absurd (err_ok (station_fault Cause.RowOpen place) serial w))) (λ z w. absurd (err_ok (station_fault Cause.HasPromised place) serial w)) h
   where
     R : Result ℕ Fault → Type 0
     R r = r ≡ Ok serial → MayAsk k t serial
@@ -148,7 +148,7 @@ module _ (b : Book) (law : Lawful b) (τ : ℕ → Tallies) (m : Model) (os : Al
       where
         go : (e : End) → block < blocks m.ends → (h : Option HeldRow) → After b (at_end m.ends block e) (at_end m.ends block (other_end e)) (show_of (site block e) (at_end m.ends block e) h).1 None (seen_from e (τ block))
         go e l None = record { good = good_at block e l; mine = λ s m h. h; theirs = λ s m h. h; says = tt }
-        go e l (Some h) = show_ok b _ _ (seen_from e (τ block)) (good_at block e l) (orderly_at block e) (orderly_at block (other_end e)) (Signal.Off h.permission)
+        go e l (Some h) = show_ok b _ _ (seen_from e (τ block)) (good_at block e l) (orderly_at block e) (orderly_at block (other_end e)) (Some h.permission)
 
     pub enter_step : (train : ℕ) → KeptWhole b τ (Call.Enter block end train) c (outcome b (Call.Enter block end train) c m)
     enter_step train = then_ok (KeptWhole b τ (Call.Enter block end train) c) m (located (blocks m.ends) block end) _ (λ fault. i) λ e h.

@@ -1,15 +1,19 @@
 -- What an end of a block keeps.
-use Rattle.std.specs.Prelude.{ℕ, Bool, true, false, ◌&&◌, List, [], ◌==◌}
+use Rattle.std.specs.Prelude.{ℕ, Bool, true, false, ◌&&◌, List, [], Some, None, Option, ◌==◌}
 use Rattle.rules.specs.Lists.{renewed}
 use Rattle.rules.specs.declared.rows.OwnRow.{OwnRow}
 use Rattle.rules.specs.declared.rows.PromisedRow.{PromisedRow}
 use Rattle.rules.specs.declared.rows.RowState.{RowState}
 use Rattle.rules.specs.declared.rows.RowState.TheVariants.{Asking, Held, In, Withdrawing}
-use Rattle.rules.specs.declared.rows.Signal.{Signal}
-use Rattle.rules.specs.declared.rows.Signal.TheVariants.{Off, Stop}
+use Rattle.rules.specs.declared.rows.Permission.{Permission}
 use Rattle.slip.specs.Trains.{same_train}
+use Rattle.slip.specs.declared.fault.Cause.{Cause}
 use Rattle.slip.specs.declared.fault.Fault.{Fault}
 use Rattle.slip.specs.declared.track.Train.{Train}
+
+-- what a signal shows: it is off for a permission, or stands at Stop
+abbrev pub Signal : Type 0
+Signal = Option Permission
 
 -- the permissions it asked for and those it gave, each list oldest first; the last serial it used, and the last it heard; its signal
 pub record Kept : Type 0 where
@@ -21,7 +25,7 @@ pub record Kept : Type 0 where
 
 -- an end at making
 abbrev pub idle : ℕ → Kept
-idle start = record { own = []; promised = []; used = start; heard = start; signal = Stop }
+idle start = record { own = []; promised = []; used = start; heard = start; signal = None }
 
 -- the end with other own rows and another signal, or with other promised rows and another last heard
 abbrev pub with_own : Kept → List OwnRow → Signal → Kept
@@ -57,8 +61,8 @@ is_withdrawing (In kind) = false
 is_withdrawing Withdrawing = true
 
 abbrev pub is_stop : Signal → Bool
-is_stop Stop = true
-is_stop (Off kind) = false
+is_stop None = true
+is_stop (Some kind) = false
 
 -- which rows a rule looks for
 abbrev pub own_of_train : Train → OwnRow → Bool
@@ -71,5 +75,5 @@ abbrev pub promise_of : ℕ → PromisedRow → Bool
 promise_of serial p = p.serial == serial
 
 -- a station turns a call away: layer 2, and which end it is
-abbrev pub station_fault : ℕ → ℕ → Fault
-station_fault number place = record { number = number; layer = 2; place = place }
+abbrev pub station_fault : Cause → ℕ → Fault
+station_fault cause place = record { cause = cause; place = place }

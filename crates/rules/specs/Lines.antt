@@ -13,6 +13,7 @@ use Rattle.rules.specs.declared.rows.Permission.{Permission}
 use Rattle.rules.specs.declared.rows.Word.{Word}
 use Rattle.slip.specs.Numbers.{class_of, end_number, end_of, message_kind, other_end}
 use Rattle.slip.specs.Trains.{known_train_lem}
+use Rattle.slip.specs.declared.fault.Cause.{Cause}
 use Rattle.slip.specs.declared.fault.Fault.{Fault}
 use Rattle.slip.specs.declared.paper.Message.{Message}
 use Rattle.slip.specs.declared.paper.Slip.{Slip}
@@ -56,10 +57,10 @@ abbrev pub then : {X : Type 0} → Model → Result X Fault → (X → Outcome) 
 then m (Ok x) rest = rest x
 then m (Err fault) rest = refusal m fault
 
--- the arguments: number 1, layer 1, the position of the first bad one
+-- the arguments: the position of the first bad one
 
 abbrev pub bad_argument : ℕ → Fault
-bad_argument position = record { number = 1; layer = 1; place = position }
+bad_argument position = record { cause = Cause.Unknown; place = position }
 
 abbrev pub given_or : {X : Type 0} → ℕ → Option X → Result X Fault
 given_or position None = Err (bad_argument position)
@@ -173,7 +174,7 @@ repeat_outcome block end train m =
 -- deliver
 
 abbrev pub nothing_waits : Fault
-nothing_waits = record { number = 12; layer = 3; place = 0 }
+nothing_waits = record { cause = Cause.NothingWaits; place = 0 }
 
 abbrev pub delivered_as : Slip → Ending → Result Answer Fault
 delivered_as s ending = Ok (Answer.Delivered (record { kind = message_kind s.message; ending = ending }))
@@ -222,7 +223,7 @@ pub record Form : Type 0 where
   pub train : Train
 
 abbrev pub form_of : ℕ → End → Option HeldRow → Result Form Fault
-form_of block end None = Err (station_fault 7 (site block end))
+form_of block end None = Err (station_fault Cause.NoSuchRow (site block end))
 form_of block end (Some h) = Ok (record { block = block; end = end_number end; serial = h.row.serial; train = h.row.train })
 
 abbrev pub form_at : List Kept → ℕ → Result End Fault → Result Form Fault

@@ -1,5 +1,6 @@
 -- Words for lists of rows, oldest first.
 use Rattle.std.specs.Prelude.{ℕ, ◌+◌, ◌-◌, Bool, cond, ◌⊎◌, List, [], ◌∷◌, length, take, Some, None, Option, slice_set}
+pub use Rattle.std.specs.List.{find}
 
 -- the last of a list
 abbrev pub newest : {X : Type 0} → List X → Option X
@@ -14,11 +15,7 @@ renewed xs x = slice_set xs (length xs - 1) x
 abbrev pub without_newest : {X : Type 0} → List X → List X
 without_newest xs = take (length xs - 1) xs
 
--- the first that passes a test, and the list without it
-abbrev pub find : {X : Type 0} → (X → Bool) → List X → Option X
-find test [] = None
-find test (x ∷ xs) = cond (test x) (Some x) (find test xs)
-
+-- the list without the first that passes a test, which `find` gives
 abbrev pub without_first : {X : Type 0} → (X → Bool) → List X → List X
 without_first test [] = []
 without_first test (x ∷ xs) = cond (test x) xs (x ∷ without_first test xs)

@@ -8,9 +8,9 @@ use Rattle.rules.specs.declared.rows.Permission.{Permission}
 use Rattle.rules.specs.declared.rows.PromisedRow.{PromisedRow}
 use Rattle.rules.specs.declared.rows.RowState.{RowState}
 use Rattle.rules.specs.declared.rows.RowState.TheVariants.{Asking, Held, In, Withdrawing}
-use Rattle.rules.specs.declared.rows.Signal.TheVariants.{Off, Stop}
 use Rattle.rules.specs.declared.rows.Word.{Word}
 use Rattle.slip.specs.Trains.{same_train}
+use Rattle.slip.specs.declared.fault.Cause.{Cause}
 use Rattle.slip.specs.declared.fault.Fault.{Fault}
 use Rattle.slip.specs.declared.paper.Message.{Message}
 use Rattle.slip.specs.declared.track.Class.{Class}
@@ -23,8 +23,8 @@ word message serial = record { message = message; serial = serial }
 abbrev pub Done : Type 0 → Type 0
 Done X = Result X Fault × Kept
 
-abbrev pub turned_away : {X : Type 0} → ℕ → ℕ → Kept → Done X
-turned_away number place k = (Err (station_fault number place), k)
+abbrev pub turned_away : {X : Type 0} → Cause → ℕ → Kept → Done X
+turned_away cause place k = (Err (station_fault cause place), k)
 
 -- ask
 
@@ -49,11 +49,11 @@ abbrev pub next_serial_lem : ℕ → Train → Kept → Result ℕ Fault
 next_serial_lem place train k =
     cond (is_empty k.promised)
     (cond (all_in (newest k.own))
-    (cond (nat_le 4 (length k.own)) (Err (station_fault 4 place))
-    (cond (is_some (find (own_of_train train) k.own)) (Err (station_fault 5 place))
-    (cond (nat_le last_serial k.used) (Err (station_fault 6 place)) (Ok (k.used + 1)))))
-    (Err (station_fault 3 place)))
-    (Err (station_fault 2 place))
+    (cond (nat_le 4 (length k.own)) (Err (station_fault Cause.RowsFull place))
+    (cond (is_some (find (own_of_train train) k.own)) (Err (station_fault Cause.TrainHasRow place))
+    (cond (nat_le last_serial k.used) (Err (station_fault Cause.SerialsUsedUp place)) (Ok (k.used + 1)))))
+    (Err (station_fault Cause.RowOpen place)))
+    (Err (station_fault Cause.HasPromised place))
 
 abbrev pub new_row : ℕ → Train → Class → OwnRow
 new_row serial train class = record { serial = serial; train = train; class = class; state = Asking }
@@ -66,13 +66,13 @@ with_asking serial train class k =
 -- withdraw: the newest own row, Asking or Held
 
 abbrev pub withdraw_row : ℕ → Kept → OwnRow → RowState → Done Word
-withdraw_row place k r Asking = (Ok (word Message.Withdraw r.serial), with_own k (newest_to k r Withdrawing) Stop)
-withdraw_row place k r (Held kind) = (Ok (word Message.Withdraw r.serial), with_own k (newest_to k r Withdrawing) Stop)
-withdraw_row place k r (In kind) = turned_away 7 place k
-withdraw_row place k r Withdrawing = turned_away 7 place k
+withdraw_row place k r Asking = (Ok (word Message.Withdraw r.serial), with_own k (newest_to k r Withdrawing) None)
+withdraw_row place k r (Held kind) = (Ok (word Message.Withdraw r.serial), with_own k (newest_to k r Withdrawing) None)
+withdraw_row place k r (In kind) = turned_away Cause.NoSuchRow place k
+withdraw_row place k r Withdrawing = turned_away Cause.NoSuchRow place k
 
 abbrev pub withdraw_of : ℕ → Kept → Option OwnRow → Done Word
-withdraw_of place k None = turned_away 7 place k
+withdraw_of place k None = turned_away Cause.NoSuchRow place k
 withdraw_of place k (Some r) = withdraw_row place k r r.state
 
 abbrev pub withdrawn : ℕ → Kept → Done Word
@@ -96,8 +96,8 @@ held k = held_of (newest k.own)
 -- show: the signal takes the Held row's kind
 
 abbrev pub show_of : ℕ → Kept → Option HeldRow → Done Permission
-show_of place k None = turned_away 7 place k
-show_of place k (Some h) = (Ok h.permission, with_own k k.own (Off h.permission))
+show_of place k None = turned_away Cause.NoSuchRow place k
+show_of place k (Some h) = (Ok h.permission, with_own k k.own (Some h.permission))
 
 abbrev pub shown : ℕ → Kept → Done Permission
 shown place k = show_of place k (held k)
@@ -105,14 +105,14 @@ shown place k = show_of place k (held k)
 -- the Held row's train goes in
 
 abbrev pub go_in_lem : Kept → HeldRow → Done Word
-go_in_lem k h = (Ok (word Message.Entered h.row.serial), with_own k (newest_to k h.row (In h.permission)) Stop)
+go_in_lem k h = (Ok (word Message.Entered h.row.serial), with_own k (newest_to k h.row (In h.permission)) None)
 
 -- enter: under a signal off Stop
 
 abbrev pub enter_of : ℕ → Train → Kept → Option HeldRow → Done Word
-enter_of place train k None = turned_away 7 place k
+enter_of place train k None = turned_away Cause.NoSuchRow place k
 enter_of place train k (Some h) =
-    cond (same_train h.row.train train) (cond (is_stop k.signal) (turned_away 9 place k) (go_in_lem k h)) (turned_away 8 place k)
+    cond (same_train h.row.train train) (cond (is_stop k.signal) (turned_away Cause.SignalAtStop place k) (go_in_lem k h)) (turned_away Cause.OtherTrain place k)
 
 abbrev pub entered : ℕ → Train → Kept → Done Word
 entered place train k = enter_of place train k (held k)
@@ -120,9 +120,9 @@ entered place train k = enter_of place train k (held k)
 -- present: by a form, whatever the signal shows
 
 abbrev pub present_of : ℕ → ℕ → Train → Kept → Option HeldRow → Done Word
-present_of place serial train k None = turned_away 7 place k
+present_of place serial train k None = turned_away Cause.NoSuchRow place k
 present_of place serial train k (Some h) =
-    cond (h.row.serial == serial && same_train h.row.train train) (go_in_lem k h) (turned_away 8 place k)
+    cond (h.row.serial == serial && same_train h.row.train train) (go_in_lem k h) (turned_away Cause.OtherTrain place k)
 
 abbrev pub presented : ℕ → ℕ → Train → Kept → Done Word
 presented place serial train k = present_of place serial train k (held k)
@@ -130,11 +130,11 @@ presented place serial train k = present_of place serial train k (held k)
 -- arrive: the oldest promised row goes, if its train's entry was reported
 
 abbrev pub arrive_of : ℕ → Train → Kept → List PromisedRow → Done Word
-arrive_of place train k [] = turned_away 7 place k
+arrive_of place train k [] = turned_away Cause.NoSuchRow place k
 arrive_of place train k (p ∷ ps) =
     cond (same_train p.train train)
-    (cond p.reported (Ok (word Message.Out p.serial), with_promised k ps k.heard) (turned_away 10 place k))
-    (turned_away 8 place k)
+    (cond p.reported (Ok (word Message.Out p.serial), with_promised k ps k.heard) (turned_away Cause.NotReported place k))
+    (turned_away Cause.OtherTrain place k)
 
 abbrev pub arrived : ℕ → Train → Kept → Done Word
 arrived place train k = arrive_of place train k k.promised
@@ -143,12 +143,12 @@ arrived place train k = arrive_of place train k k.promised
 
 abbrev pub repeat_row : ℕ → OwnRow → RowState → Result Word Fault
 repeat_row place r Asking = Ok (word (Message.Wanted r.train r.class) r.serial)
-repeat_row place r (Held kind) = Err (station_fault 7 place)
+repeat_row place r (Held kind) = Err (station_fault Cause.NoSuchRow place)
 repeat_row place r (In kind) = Ok (word Message.Entered r.serial)
 repeat_row place r Withdrawing = Ok (word Message.Withdraw r.serial)
 
 abbrev pub repeat_of : ℕ → Option OwnRow → Result Word Fault
-repeat_of place None = Err (station_fault 7 place)
+repeat_of place None = Err (station_fault Cause.NoSuchRow place)
 repeat_of place (Some r) = repeat_row place r r.state
 
 abbrev pub repeated : ℕ → Train → Kept → Result Word Fault

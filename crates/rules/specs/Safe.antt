@@ -10,7 +10,7 @@ use Rattle.rules.specs.declared.rows.OwnRow.{OwnRow}
 use Rattle.rules.specs.declared.rows.Permission.{Permission}
 use Rattle.rules.specs.declared.rows.PromisedRow.{PromisedRow}
 use Rattle.rules.specs.declared.rows.RowState.{RowState}
-use Rattle.rules.specs.declared.rows.Signal.{Signal}
+use Rattle.rules.specs.Ends.{Signal}
 use Rattle.slip.specs.Numbers.{class_letter_lem}
 use Rattle.slip.specs.Trains.{same_train}
 use Rattle.slip.specs.declared.track.Train.{Train}
@@ -33,8 +33,8 @@ HeldAs kind None = ⊥
 HeldAs kind (Some r) = r.state ≡ RowState.Held kind
 
 abbrev pub Shows : Option OwnRow → Signal → Type 0
-Shows r Signal.Stop = Unit {0}
-Shows r (Signal.Off kind) = HeldAs kind r
+Shows r None = Unit {0}
+Shows r (Some kind) = HeldAs kind r
 
 pub record RowRules (k : Kept) : Type 0 where
   pub own_order : Pairwise Older k.own
@@ -94,8 +94,8 @@ BackedRow τ kind None = ⊥
 BackedRow τ kind (Some r) = (r.state ≡ RowState.Held kind) × Any (Unspent r kind) τ.promises
 
 abbrev pub BackedSignal : Tally → Option OwnRow → Signal → Type 0
-BackedSignal τ r Signal.Stop = Unit {0}
-BackedSignal τ r (Signal.Off kind) = BackedRow τ kind r
+BackedSignal τ r None = Unit {0}
+BackedSignal τ r (Some kind) = BackedRow τ kind r
 
 -- an entry had one permission to spend, and no two entries had the same
 pub record OneChoice (e : Entry) : Type 0 where

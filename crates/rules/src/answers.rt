@@ -42,33 +42,33 @@ pub enum Answer {
     Faded,
 }
 
-impl Permission {
-    pub fn number(self) -> u32
-        ensures { result ≡ permission_number self }
-    {
-        match self {
+impl From<Permission> for u32 {
+    ghost from_gives = { λ permission number. number ≡ permission_number permission };
+
+    fn from(permission: Permission) -> u32 {
+        match permission {
             Permission::Clear => 1,
             Permission::Permissive => 2,
         }
     }
 }
 
-impl Sent {
-    pub fn number(self) -> u32
-        ensures { result ≡ sent_number self }
-    {
-        match self {
+impl From<Sent> for u32 {
+    ghost from_gives = { λ sent number. number ≡ sent_number sent };
+
+    fn from(sent: Sent) -> u32 {
+        match sent {
             Sent::NotTaken => 0,
             Sent::Taken => 1,
         }
     }
 }
 
-impl Ending {
-    pub fn number(self) -> u32
-        ensures { result ≡ ending_number self }
-    {
-        match self {
+impl From<Ending> for u32 {
+    ghost from_gives = { λ ending number. number ≡ ending_number ending };
+
+    fn from(ending: Ending) -> u32 {
+        match ending {
             Ending::Ignored => 0,
             Ending::Found => 1,
             Ending::Replied => 2,
@@ -77,24 +77,24 @@ impl Ending {
     }
 }
 
-impl Delivered {
-    pub fn number(self) -> u32
-        ensures { result ≡ delivered_number self }
-    {
-        10 * u32::from(self.kind.number()) + self.ending.number()
+impl From<Delivered> for u32 {
+    ghost from_gives = { λ delivered number. number ≡ delivered_number delivered };
+
+    fn from(delivered: Delivered) -> u32 {
+        10 * u32::from(delivered.kind) + u32::from(delivered.ending)
     }
 }
 
-impl Answer {
-    pub fn number(self) -> u32
-        ensures { result ≡ answer_number self }
-    {
-        match self {
+impl From<Answer> for u32 {
+    ghost from_gives = { λ answer number. number ≡ answer_number answer };
+
+    fn from(answer: Answer) -> u32 {
+        match answer {
             Answer::Serial(serial) => serial,
-            Answer::Sent(sent) => sent.number(),
-            Answer::Shown(permission) => permission.number(),
-            Answer::Repeated(kind) => u32::from(kind.number()),
-            Answer::Delivered(delivered) => delivered.number(),
+            Answer::Sent(sent) => u32::from(sent),
+            Answer::Shown(permission) => u32::from(permission),
+            Answer::Repeated(kind) => u32::from(kind),
+            Answer::Delivered(delivered) => u32::from(delivered),
             Answer::Faded => 0,
         }
     }

@@ -1,5 +1,6 @@
-// The rows that an end keeps, its signal, and what it says to the other end.
+// The rows that an end keeps, and what it says to the other end.
 ghost use Rattle.rules.specs.Ends.{is_in_lem};
+ghost use Rattle.rules.specs.Hearing.{giving};
 ghost use Rattle.std.specs.Prelude.{◌≡◌};
 
 use slip::{Class, Message, Train};
@@ -11,6 +12,18 @@ pub enum Permission {
     Permissive,
 }
 
+// The reply that gives it.
+impl From<Permission> for Message {
+    ghost from_gives = { λ permission message. message ≡ giving permission };
+
+    fn from(permission: Permission) -> Message {
+        match permission {
+            Permission::Clear => Message::Clear,
+            Permission::Permissive => Message::Permissive,
+        }
+    }
+}
+
 // How far a permission has come that was asked for. It has a kind while it is held or used.
 #[derive(Clone, Copy, PartialEq, Eq, Debug)]
 pub enum RowState {
@@ -18,13 +31,6 @@ pub enum RowState {
     Held(Permission),
     In(Permission),
     Withdrawing,
-}
-
-// What a signal shows: it stands at Stop, or is off for a permission.
-#[derive(Clone, Copy, PartialEq, Eq, Debug)]
-pub enum Signal {
-    Stop,
-    Off(Permission),
 }
 
 // A permission that this end asked of the other.
@@ -76,9 +82,6 @@ impl RowState {
     pub fn is_in(self) -> bool
         ensures { result ≡ is_in_lem self }
     {
-        match self {
-            RowState::In(_) => true,
-            RowState::Asking | RowState::Held(_) | RowState::Withdrawing => false,
-        }
+        matches!(self, RowState::In(_))
     }
 }

@@ -1,5 +1,5 @@
 -- A sheet line by line: what its loop keeps, and that its report is the defined one.
-use Rattle.std.proofs.Common.{◌≡◌, ℕ, zero, suc, ◌+◌, ◌-◌, ◌<◌, ◌≤◌, min, List, [], ◌∷◌, ◌++◌, length, take, Ok, Err, Result, sym, refl, ap, ◌∙◌, subst, ⊎_elim, append_assoc, append-nil, arith, take_all}
+use Rattle.std.proofs.Common.{◌≡◌, ℕ, ◌+◌, List, [], ◌∷◌, ◌++◌, length, Ok, Err, Result, sym, refl, ap, ◌∙◌, subst, append_assoc, append-nil, arith}
 use Rattle.book.specs.Books.{class_book}
 use Rattle.lines.specs.Lines.{lines_of}
 use Rattle.rules.specs.Lines.{Model, Outcome}
@@ -11,13 +11,7 @@ use Rattle.sheet.specs.Report.{line_text, numbered}
 use Rattle.sheet.specs.Sheets.{Came, Chain, Entry, SafeChain, SheetPerformed, SheetReported, answer_of, counted, events_after, given_to, lines_before, new_line, office, oldest, report_from, report_of, turn_of}
 use Rattle.slip.specs.declared.fault.Fault.{Fault}
 use Rattle.slip.specs.declared.paper.Slip.{Slip}
-use Rattle.std.proofs.lemmas.Bool.{cases_lt}
 use Rattle.wire.specs.Waiting.{OldestFirst}
-
-take_few : (n : ℕ) (bs : List ℕ) → length (take n bs) ≤ n
-take_few zero bs = omega arith
-take_few (suc n) [] = omega arith
-take_few (suc n) (b ∷ bs) = omega (arith, take_few n bs)
 
 -- what the loop keeps: text is the report so far, rest the bytes to come, number the lines done
 pub record Sofar (s : Setting) (m : Model) (input text rest : List ℕ) (number : ℕ) (m' : Model) : Type 0 where
@@ -28,24 +22,22 @@ pub record Sofar (s : Setting) (m : Model) (input text rest : List ℕ) (number 
   pub safe : (es : List Event) → Run s MadeSilent es m → SafeChain s es m entries m'
   pub reports : text ≡ report_of entries
   pub numbers : number ≡ length entries
-  pub few : length entries + length rest ≤ 65536
 
-pub none_yet : (s : Setting) (m : Model) (input rest : List ℕ) → rest ≡ counted input → Sofar s m input [] rest 0 m
-none_yet s m input rest e = record {
+pub none_yet : (s : Setting) (m : Model) (input text rest : List ℕ) (number : ℕ) → text ≡ [] → rest ≡ counted input → number ≡ 0 → Sofar s m input text rest number m
+none_yet s m input text rest number none start first = record {
   entries = [];
-  lines = ap lines_of e;
+  lines = ap lines_of start;
   chain = refl;
   runs = λ es run. run;
   safe = λ es run. refl;
-  reports = refl;
-  numbers = refl;
-  few = let l : length rest ≤ 65536 = rw e (take_few 65536 input) in omega arith;
+  reports = none;
+  numbers = first;
 }
 
 module _ {s : Setting} {m : Model} {input text rest : List ℕ} {number : ℕ} {m' : Model} (old : Sofar s m input text rest number m') where
-  pub one_more : (l after : List ℕ) (r : Result Answer Fault) (n : Result ℕ Fault) (m'' : Model) → lines_of rest ≡ l ∷ lines_of after → length after < length rest → n ≡ numbered r → Turn s (call_at l m') m' r m''
+  pub one_more : (l after : List ℕ) (r : Result Answer Fault) (n : Result ℕ Fault) (m'' : Model) → lines_of rest ≡ l ∷ lines_of after → n ≡ numbered r → Turn s (call_at l m') m' r m''
       → Sofar s m input (text ++ line_text (number + 1) n) after (number + 1) m''
-  one_more l after r n m'' cut less same done = go (call_at l m') refl done
+  one_more l after r n m'' cut same done = go (call_at l m') refl done
     where
       text_so : (a : Result Answer Fault) → r ≡ a → text ++ line_text (number + 1) n ≡ report_of old.entries ++ line_text (length old.entries + 1) (numbered a)
       text_so a e = λ i. old.reports i ++ line_text (old.numbers i + 1) ((same ∙ ap numbered e) i)
@@ -59,7 +51,6 @@ module _ {s : Setting} {m : Model} {input text rest : List ℕ} {number : ℕ} {
         safe = λ es run. (m', old.safe es run, (e ∙ ap Ok (sym q.names), q.step), q.safe (events_after es old.entries) (old.runs es run));
         reports = text_so q.event.answer (sym q.answers);
         numbers = omega (arith, old.numbers);
-        few = omega (arith, old.few);
       }
       go (Err f) e q = record {
         entries = record { line = l; came = Err f } ∷ old.entries;
@@ -69,7 +60,6 @@ module _ {s : Setting} {m : Model} {input text rest : List ℕ} {number : ℕ} {
         safe = λ es run. (m', old.safe es run, (e, q.1), tt);
         reports = text_so (Err f) q.0;
         numbers = omega (arith, old.numbers);
-        few = omega (arith, old.few);
       }
 
   pub all_done : rest ≡ [] → SheetPerformed s m input text m'
@@ -126,11 +116,3 @@ from_made m input text m' new d =
       runs = whole.runs [] made;
       safe = whole.safe [] made;
     }
-
--- the bytes that count, as they are cut from the input
-pub cut_off : (n : ℕ) (bs : List ℕ) → n ≡ min (length bs) 65536 → take (n - 0) bs ≡ counted bs
-cut_off n bs e =
-    ⊎_elim
-    (λ l. let k : n - 0 ≡ length bs = omega (arith, e) in rw k (take_all (length bs) bs (omega arith) ∙ sym (take_all 65536 bs (omega arith))))
-    (λ l. let k : n - 0 ≡ 65536 = omega (arith, e) in rw k refl)
-    (cases_lt (length bs) 65536)

@@ -4,5 +4,5 @@
 mod report;
 mod run;
 
-pub use report::{line_report, number_of};
+pub use report::Entry;
 pub use run::{perform_sheet, report_sheet};

@@ -1,33 +1,43 @@
 // The report's line for a line of a sheet.
 ghost use Rattle.sheet.specs.Report.{line_text, numbered};
-ghost use Rattle.std.specs.Prelude.{◌≡◌, IfOk, string_bytes};
+ghost use Rattle.std.specs.Prelude.{◌≡◌, Some};
 
 use rules::Answer;
 use slip::Fault;
-use std::alloc::{AllocError, Global};
+use std::fmt;
 
-// An answer by its number.
-pub fn number_of(answer: Result<Answer, Fault>) -> Result<u32, Fault>
-    ensures { result ≡ numbered answer }
-{
-    Ok(answer?.number())
+// What is printed of a line: its number, and what it was answered.
+#[derive(Clone, Copy)]
+pub struct Entry {
+    pub line: usize,
+    pub answer: Result<u32, Fault>,
 }
 
-// What is printed of a line by its number and its answer.
-pub fn line_report(
-    heap: Global,
-    line: usize,
-    answer: Result<u32, Fault>,
-) -> Result<String, AllocError>
-    ensures { IfOk result (λ t. string_bytes t ≡ line_text line answer) }
-{
-    match answer {
-        Ok(value) => format!(in heap; "{line} ok {value}\n"),
-        Err(fault) => {
-            let number = fault.number;
-            let layer = fault.layer;
-            let place = fault.place;
-            format!(in heap; "{line} no {number} {layer} {place}\n")
+impl Entry {
+    // The entry for a line that was answered so: an answer is printed by its number.
+    pub fn new(line: usize, answer: Result<Answer, Fault>) -> Entry
+        ensures { result ≡ record { line = line; answer = numbered answer } }
+    {
+        Entry {
+            line,
+            answer: answer.map(u32::from),
+        }
+    }
+}
+
+impl fmt::Display for Entry {
+    ghost output = { λ entry. Some (line_text entry.line entry.answer) };
+
+    fn fmt<W: fmt::Write>(&self, f: &mut fmt::Formatter<W>) -> fmt::Result {
+        let line = self.line;
+        match self.answer {
+            Ok(value) => write!(f, "{line} ok {value}\n"),
+            Err(fault) => {
+                let number = u8::from(fault.cause);
+                let layer = u8::from(fault.cause.layer());
+                let place = fault.place;
+                write!(f, "{line} no {number} {layer} {place}\n")
+            }
         }
     }
 }

@@ -1,17 +1,18 @@
 // Performing a sheet on a line.
-ghost use Rattle.line.specs.Models.{as_answer, delivered_answer, model, repeated_answer, sent_answer, serial_answer, setting, shown_answer};
+ghost use Rattle.line.specs.Models.{model, setting};
 ghost use Rattle.sheet.specs.Calls.{Turn, call_at, call_of, presents};
 ghost use Rattle.rules.specs.Lines.{written_form};
 ghost use Rattle.sheet.specs.Sheets.{SheetPerformed, SheetReported};
 ghost use Rattle.std.specs.Prelude.{◌≡◌, IfOk, string_bytes};
 
-use crate::report::{line_report, number_of};
+use crate::report::Entry;
 use book::{ClassBook, RuleBook};
 use line::{Ends, Line};
 use lines::Lines;
-use rules::{Answer, Delivered, Permission, Sent};
-use slip::{Fault, SlipKind};
+use rules::Answer;
+use slip::Fault;
 use std::alloc::{AllocError, Global};
+use std::fmt::Write;
 use telegraph::Telegraph;
 use wire::Wire;
 use words::{Command, read_line};
@@ -19,46 +20,17 @@ use words::{Command, read_line};
 // How many bytes of a sheet count.
 const COUNTED: usize = 65536;
 
-fn by_serial(answer: Result<u32, Fault>) -> Result<Answer, Fault>
-    ensures { result ≡ as_answer serial_answer answer }
-{
-    Ok(Answer::Serial(answer?))
-}
-
-fn by_sent(answer: Result<Sent, Fault>) -> Result<Answer, Fault>
-    ensures { result ≡ as_answer sent_answer answer }
-{
-    Ok(Answer::Sent(answer?))
-}
-
-fn by_shown(answer: Result<Permission, Fault>) -> Result<Answer, Fault>
-    ensures { result ≡ as_answer shown_answer answer }
-{
-    Ok(Answer::Shown(answer?))
-}
-
-fn by_repeated(answer: Result<SlipKind, Fault>) -> Result<Answer, Fault>
-    ensures { result ≡ as_answer repeated_answer answer }
-{
-    Ok(Answer::Repeated(answer?))
-}
-
-fn by_delivered(answer: Result<Delivered, Fault>) -> Result<Answer, Fault>
-    ensures { result ≡ as_answer delivered_answer answer }
-{
-    Ok(Answer::Delivered(answer?))
-}
-
 // Writes a form, has it signed by both, and presents it.
 fn pass_by_form<'w, W: Wire, B: RuleBook>(
     line: &mut Line<'w, W, B>,
     block: u32,
     end: u32,
 ) -> Result<Answer, Fault>
-    ensures { Turn (setting B.limit B.admits W.picks W.loses) (presents (written_form block end (model W.waiting W.room line.old))) (model W.waiting W.room line.old) result (model W.waiting W.room line.new) }
+    ensures { Turn (setting line.old) (presents (written_form block end (model line.old))) (model line.old) result (model line.new) }
 {
     let form = line.write_form(block, end)?;
-    by_sent(line.present(form.sign_as_conductor().sign_as_engineman()))
+    let signed = form.sign_as_conductor().sign_as_engineman();
+    line.present(signed).map(Answer::Sent)
 }
 
 // Performs what a command asks for.
@@ -66,7 +38,7 @@ fn perform<'w, W: Wire, B: RuleBook>(
     line: &mut Line<'w, W, B>,
     command: Command,
 ) -> Result<Answer, Fault>
-    ensures { Turn (setting B.limit B.admits W.picks W.loses) (call_of command (model W.waiting W.room line.old)) (model W.waiting W.room line.old) result (model W.waiting W.room line.new) }
+    ensures { Turn (setting line.old) (call_of command (model line.old)) (model line.old) result (model line.new) }
 {
     match command {
         Command::Ask {
@@ -74,26 +46,24 @@ fn perform<'w, W: Wire, B: RuleBook>(
             end,
             train,
             class,
-        } => by_serial(line.ask(block, u32::from(end.number()), train, class)),
-        Command::Withdraw { block, end } => by_sent(line.withdraw(block, u32::from(end.number()))),
-        Command::Show { block, end } => by_shown(line.show(block, u32::from(end.number()))),
-        Command::Enter { block, end, train } => by_sent(line.enter(
-            block,
-            u32::from(end.number()),
-            train,
-        )),
-        Command::Form { block, end } => pass_by_form(line, block, u32::from(end.number())),
-        Command::Arrive { block, end, train } => by_sent(line.arrive(
-            block,
-            u32::from(end.number()),
-            train,
-        )),
-        Command::Repeat { block, end, train } => by_repeated(line.repeat(
-            block,
-            u32::from(end.number()),
-            train,
-        )),
-        Command::Deliver => by_delivered(line.deliver()),
+        } => line
+            .ask(block, u32::from(end), train, class)
+            .map(Answer::Serial),
+        Command::Withdraw { block, end } => {
+            line.withdraw(block, u32::from(end)).map(Answer::Sent)
+        }
+        Command::Show { block, end } => line.show(block, u32::from(end)).map(Answer::Shown),
+        Command::Enter { block, end, train } => {
+            line.enter(block, u32::from(end), train).map(Answer::Sent)
+        }
+        Command::Form { block, end } => pass_by_form(line, block, u32::from(end)),
+        Command::Arrive { block, end, train } => {
+            line.arrive(block, u32::from(end), train).map(Answer::Sent)
+        }
+        Command::Repeat { block, end, train } => line
+            .repeat(block, u32::from(end), train)
+            .map(Answer::Repeated),
+        Command::Deliver => line.deliver().map(Answer::Delivered),
         Command::Fade => {
             line.fade();
             Ok(Answer::Faded)
@@ -106,7 +76,7 @@ fn perform_line<'w, W: Wire, B: RuleBook>(
     line: &mut Line<'w, W, B>,
     text: &[u8],
 ) -> Result<Answer, Fault>
-    ensures { Turn (setting B.limit B.admits W.picks W.loses) (call_at text.now (model W.waiting W.room line.old)) (model W.waiting W.room line.old) result (model W.waiting W.room line.new) }
+    ensures { Turn (setting line.old) (call_at text.now (model line.old)) (model line.old) result (model line.new) }
 {
     let command = read_line(text)?;
     perform(line, command)
@@ -118,16 +88,13 @@ pub fn perform_sheet<'w, W: Wire, B: RuleBook>(
     line: &mut Line<'w, W, B>,
     input: &[u8],
 ) -> Result<String, AllocError>
-    ensures { IfOk result (λ s. SheetPerformed (setting B.limit B.admits W.picks W.loses) (model W.waiting W.room line.old) input.now (string_bytes s) (model W.waiting W.room line.new)) }
+    ensures { IfOk result (λ s. SheetPerformed (setting line.old) (model line.old) input.now (string_bytes s) (model line.new)) }
 {
     let mut report = String::new(heap);
-    let mut lines = Lines::new(&input[0..input.len().min(COUNTED)]);
-    let mut number = 0;
-    while let Some(text) = lines.next_line() {
-        number += 1;
-        let answer = number_of(perform_line(line, text));
-        let entry = line_report(heap, number, answer)?;
-        report.push_str(entry.as_str())?;
+    let lines = Lines::new(&input[..COUNTED.min(input.len())]);
+    for (index, text) in lines.enumerate() {
+        let entry = Entry::new(index + 1, perform_line(line, text));
+        write!(report, "{entry}")?;
     }
     Ok(report)
 }
@@ -139,6 +106,6 @@ pub fn report_sheet(heap: Global, input: &[u8]) -> Result<String, AllocError>
     let ends = Ends::new(heap, 3, 0)?;
     let mut bytes = [0u8; 640];
     let mut wire = Telegraph::new(&mut bytes);
-    let mut line = Line::new(ends, &mut wire, ClassBook {});
+    let mut line = Line::new(ends, &mut wire, ClassBook);
     perform_sheet(heap, &mut line, input)
 }

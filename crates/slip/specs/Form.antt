@@ -1,5 +1,6 @@
 -- When a slip is in form, and how one that is not is turned away.
 use Rattle.std.specs.Prelude.{◌≡◌, ℕ, Bool, true, cond, Ok, Err, Result, ◌==◌, nat_le}
+use Rattle.slip.specs.declared.fault.Cause.{Cause}
 use Rattle.slip.specs.declared.fault.Fault.{Fault}
 use Rattle.slip.specs.declared.paper.Message.{Message}
 use Rattle.slip.specs.declared.paper.Slip.{Slip}
@@ -7,7 +8,7 @@ use Rattle.slip.specs.Trains.{known_train_lem}
 
 -- a slip out of form: number 1, layer 1, the field's position from 1, or 0 where the length is wrong
 abbrev pub bad_slip : ℕ → Fault
-bad_slip place = record { number = 1; layer = 1; place = place }
+bad_slip place = record { cause = Cause.Unknown; place = place }
 
 -- a train that a message names is a known one
 abbrev pub good_train : Message → Bool

@@ -1,11 +1,19 @@
--- The number of each kind of slip and of each end, and the letter of each class; and back.
-use Rattle.std.specs.Prelude.{ℕ, cond, Some, None, Option, ◌==◌}
+-- The number of each kind of slip and of each end, and the letter of each class; and what a number or a letter names.
+use Rattle.std.specs.Prelude.{ℕ, cond, Some, None, Ok, Err, Option, Result, ◌==◌}
 use Rattle.slip.specs.declared.paper.Message.{Message}
 use Rattle.slip.specs.declared.paper.SlipKind.{SlipKind}
 use Rattle.slip.specs.declared.track.Class.{Class}
 use Rattle.slip.specs.declared.track.Class.TheVariants.{Passenger, Freight, Work, Light}
 use Rattle.slip.specs.declared.track.End.{End}
 use Rattle.slip.specs.declared.track.End.TheVariants.{West, East}
+use Rattle.slip.specs.declared.track.NamesNothing.{NamesNothing}
+use Rattle.slip.specs.declared.track.Train.{Train}
+use Rattle.slip.specs.Trains.{known_train_lem}
+
+-- what is named, or that nothing is
+abbrev pub named : {X : Type 0} → Option X → Result X NamesNothing
+named (Some x) = Ok x
+named None = Err (record {})
 
 abbrev pub kind_number : SlipKind → ℕ
 kind_number SlipKind.Wanted = 1
@@ -55,3 +63,7 @@ class_letter_lem Light = 76
 abbrev pub class_of : ℕ → Option Class
 class_of n =
     cond (n == 80) (Some Passenger) (cond (n == 70) (Some Freight) (cond (n == 87) (Some Work) (cond (n == 76) (Some Light) None)))
+
+-- a train is named by its number
+abbrev pub train_of : ℕ → Option Train
+train_of n = cond (known_train_lem (record { number = n })) (Some (record { number = n })) None

@@ -1,9 +1,9 @@
 // A slip's ten bytes, written into a lent buffer and read from one.
 ghost use Rattle.std.specs.Prelude.{◌≡◌, ◌^◌, ◌<◌, true, ◌++◌, length, drop, is_ok, if◌then◌else◌};
-ghost use Rattle.slip.specs.Bytes.{ReadsBack, Worked, WritesBack, bare as bare_of, class_byte, decode, encode, message_of, train_number_lem, wanted_of, written as written-into};
+ghost use Rattle.slip.specs.Bytes.{ReadsBack, Worked, WritesBack, bare as bare_of, class_byte, decode, encode, message_of, slip_of_lem, train_number_lem, wanted_of, written as written-into};
 
-use crate::fault::Fault;
-use crate::form::{check_form, malformed};
+use crate::fault::{Cause, Fault, known};
+use crate::form::{LAST_BLOCK, check_form};
 use crate::paper::{Message, Slip, SlipKind};
 use crate::track::{Class, End, Train};
 
@@ -14,7 +14,7 @@ fn class_letter(message: Message) -> u8
     ensures { result ≡ class_byte message }
 {
     match message {
-        Message::Wanted { class, .. } => class.letter(),
+        Message::Wanted { class, .. } => class.into(),
         _ => 0,
     }
 }
@@ -35,14 +35,14 @@ pub fn write(slip: &Slip, out: &mut [u8]) -> Result<(), Fault>
     ensures fits { is_ok result ≡ true → slip.now.serial < 2 ^ 32 }
 {
     if out.len() < LENGTH {
-        return Err(malformed(0));
+        return Err(Cause::Unknown.at(0));
     }
     check_form(slip)?;
     let train = train_number(slip.message).to_be_bytes();
     let serial = slip.serial.to_be_bytes();
-    out[0] = slip.message.kind().number();
+    out[0] = slip.message.kind().into();
     out[1] = slip.block;
-    out[2] = slip.to.number();
+    out[2] = slip.to.into();
     out[3] = class_letter(slip.message);
     out[4] = train[0];
     out[5] = train[1];
@@ -58,10 +58,10 @@ fn bare(message: Message, letter: u8, number: u16) -> Result<Message, Fault>
     ensures { result ≡ bare_of message letter number }
 {
     if letter != 0 {
-        return Err(malformed(4));
+        return Err(Cause::Unknown.at(4));
     }
     if number != 0 {
-        return Err(malformed(5));
+        return Err(Cause::Unknown.at(5));
     }
     Ok(message)
 }
@@ -69,11 +69,8 @@ fn bare(message: Message, letter: u8, number: u16) -> Result<Message, Fault>
 fn wanted(letter: u8, number: u16) -> Result<Message, Fault>
     ensures { result ≡ wanted_of letter number }
 {
-    let class = Class::from_letter(letter as char).ok_or(malformed(4))?;
-    let train = Train { number };
-    if !train.is_known() {
-        return Err(malformed(5));
-    }
+    let class = known(4, Class::try_from(char::from(letter)))?;
+    let train = known(5, Train::try_from(u32::from(number)))?;
     Ok(Message::Wanted { train, class })
 }
 
@@ -93,28 +90,36 @@ fn message(kind: SlipKind, letter: u8, number: u16) -> Result<Message, Fault>
     }
 }
 
+// Reads the other fields of a slip of this kind.
+fn read_as(kind: SlipKind, bytes: &[u8]) -> Result<Slip, Fault>
+    requires { length bytes.now ≡ 10 }
+    ensures { result ≡ slip_of_lem bytes.now kind }
+{
+    let block = bytes[1];
+    if block > LAST_BLOCK {
+        return Err(Cause::Unknown.at(2));
+    }
+    let to = known(3, End::try_from(u32::from(bytes[2])))?;
+    let number = u16::from_be_bytes([bytes[4], bytes[5]]);
+    let message = message(kind, bytes[3], number)?;
+    let serial = u32::from_be_bytes([bytes[6], bytes[7], bytes[8], bytes[9]]);
+    Ok(Slip {
+        block,
+        to,
+        message,
+        serial,
+    })
+}
+
 // Reads the slip that ten bytes say.
 pub fn read(bytes: &[u8]) -> Result<Slip, Fault>
     ensures { result ≡ decode bytes.now }
 {
     if bytes.len() != LENGTH {
-        return Err(malformed(0));
+        return Err(Cause::Unknown.at(0));
     }
-    let kind = SlipKind::from_number(bytes[0]).ok_or(malformed(1))?;
-    let block = bytes[1];
-    if block > 14 {
-        return Err(malformed(2));
-    }
-    let to = End::from_number(bytes[2]).ok_or(malformed(3))?;
-    let number = u16::from_be_bytes([bytes[4], bytes[5]]);
-    let says = message(kind, bytes[3], number)?;
-    let serial = u32::from_be_bytes([bytes[6], bytes[7], bytes[8], bytes[9]]);
-    Ok(Slip {
-        block,
-        to,
-        message: says,
-        serial,
-    })
+    let kind = known(1, SlipKind::try_from(bytes[0]))?;
+    read_as(kind, bytes)
 }
 
 // Writing and reading undo each other; and the worked slip's bytes.

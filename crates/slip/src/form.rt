@@ -1,20 +1,12 @@
 // Whether a slip is in form.
-ghost use Rattle.slip.specs.Form.{bad_slip, form_checked, good_train};
+ghost use Rattle.slip.specs.Form.{form_checked, good_train};
 ghost use Rattle.std.specs.Prelude.{◌≡◌};
 
-use crate::fault::Fault;
+use crate::fault::{Cause, Fault};
 use crate::paper::{Message, Slip};
 
-// The refusal of a slip for its field at this position, or for its length at 0.
-pub fn malformed(place: u32) -> Fault
-    ensures { result ≡ bad_slip place }
-{
-    Fault {
-        number: 1,
-        layer: 1,
-        place,
-    }
-}
+// The number of the last block that a line can have.
+pub(crate) const LAST_BLOCK: u8 = 14;
 
 fn has_good_train(message: Message) -> bool
     ensures { result ≡ good_train message }
@@ -29,11 +21,11 @@ fn has_good_train(message: Message) -> bool
 pub fn check_form(slip: &Slip) -> Result<(), Fault>
     ensures { result ≡ form_checked slip.now }
 {
-    if slip.block > 14 {
-        return Err(malformed(2));
+    if slip.block > LAST_BLOCK {
+        return Err(Cause::Unknown.at(2));
     }
     if !has_good_train(slip.message) {
-        return Err(malformed(5));
+        return Err(Cause::Unknown.at(5));
     }
     Ok(())
 }

@@ -8,7 +8,7 @@ mod paper;
 mod track;
 
 pub use bytes::{LENGTH, read, round_trips, write};
-pub use fault::Fault;
-pub use form::{check_form, malformed};
+pub use fault::{Cause, Fault, Layer, known};
+pub use form::check_form;
 pub use paper::{Message, Slip, SlipKind};
-pub use track::{Class, End, Train};
+pub use track::{Class, End, NamesNothing, Train};

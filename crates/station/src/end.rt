@@ -1,12 +1,13 @@
 // What one end of a block keeps, with memory reserved for all its rows.
-ghost use Rattle.std.specs.Prelude.{◌≤◌, vec_len, vec_capacity};
+use rules::{OwnRow, Permission, PromisedRow};
+use std::marker::Model;
 
-use rules::{OwnRow, PromisedRow, Signal};
-use slip::Train;
-
+mod asking;
 mod hearing;
 mod moves;
 mod rows;
+
+pub use asking::Asking;
 
 // Both lists are oldest first. That their serials rise, and the like, is no matter of this record but of a line's whole run.
 #[derive(Drop)]
@@ -15,16 +16,18 @@ pub struct Station {
     promised: Vec<PromisedRow>,
     used: u32,
     heard: u32,
-    signal: Signal,
-    ghost own_few: { (vec_len own ≤ 4) × (4 ≤ vec_capacity own) },
-    ghost promised_few: { (vec_len promised ≤ 4) × (4 ≤ vec_capacity promised) },
+    // what the signal shows; none at Stop
+    signal: Option<Permission>,
 }
 
-// The operators' calls that change an end and say a word to the other end.
-#[derive(Clone, Copy)]
-pub enum Move {
-    Withdraw,
-    Enter { train: Train },
-    Present { serial: u32, train: Train },
-    Arrive { train: Train },
+// Clauses see what the rules say that an end keeps. Neither list grows beyond four rows, and each has memory for four.
+impl Model for Station {
+    ghost use Rattle.rules.specs.Ends.{Kept};
+    ghost use Rattle.std.specs.Prelude.{◌≤◌, vec_len, vec_capacity};
+
+    ghost Value = { Kept };
+
+    ghost view = { λ s. record { own = s.own.items; promised = s.promised.items; used = s.used; heard = s.heard; signal = s.signal } };
+
+    ghost invariant = { λ s. (vec_len s.own ≤ 4) × (4 ≤ vec_capacity s.own) × (vec_len s.promised ≤ 4) × (4 ≤ vec_capacity s.promised) };
 }

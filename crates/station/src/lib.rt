@@ -3,4 +3,4 @@
 
 mod end;
 
-pub use end::{Move, Station};
+pub use end::{Asking, Station};

@@ -1,5 +1,5 @@
--- Places around a ring.
-use Rattle.std.proofs.Common.{◌≡◌, ℕ, ◌+◌, ◌-◌, ◌<◌, ◌≤◌, ◌≢◌, arith}
+-- Places around a ring of n.
+use Rattle.std.proofs.Common.{◌≡◌, ℕ, ◌+◌, ◌<◌, ◌≤◌, ◌≢◌, arith}
 use Rattle.std.proofs.lemmas.Bool.Decides.{nat_tests}
 use Rattle.telegraph.specs.Ring.{place}
 
@@ -14,9 +14,3 @@ place_below n p k a b = grind (arith, nat_tests)
 
 pub place_next : (n p k : ℕ) → p < n → k < n → place n (place n p 1) k ≡ place n p (k + 1)
 place_next n p k a b = grind (arith, nat_tests)
-
-pub place_after : (n p k : ℕ) → p < n → k < n → place n p (k + 1) ≡ place n (place n p k) 1
-place_after n p k a b = grind (arith, nat_tests)
-
-pub place_kept : (n p k : ℕ) → p < n → 0 < k → k ≤ n → place n (place n p 1) (k - 1) ≡ place n p k
-place_kept n p k a b c = grind (arith, nat_tests)

@@ -3,7 +3,7 @@ use Rattle.std.specs.Prelude.{◌≡◌, ℕ, List, Option}
 use Rattle.slip.specs.Bytes.{encode}
 use Rattle.slip.specs.declared.paper.Slip.{Slip}
 use Rattle.telegraph.specs.Formed.{formed_ring}
-use Rattle.telegraph.specs.Ring.{place, ring, stored}
+use Rattle.telegraph.specs.Ring.{place, places, ring, stored}
 use Rattle.telegraph.specs.declared.ring.Telegraph.{Telegraph}
 use Rattle.wire.specs.Waiting.{Formed}
 
@@ -11,17 +11,17 @@ use Rattle.wire.specs.Waiting.{Formed}
 abbrev pub bytes_of : Telegraph → List ℕ
 bytes_of t = t.bytes.now
 
+-- how many slips may wait
+abbrev pub places_of : Telegraph → ℕ
+places_of t = places (bytes_of t)
+
 -- the slips that wait, oldest first
 abbrev pub slips_of : Telegraph → List Slip
-slips_of t = ring (bytes_of t) t.room t.first t.count
-
--- how many may wait
-abbrev pub places_of : Telegraph → ℕ
-places_of t = t.room
+slips_of t = ring (bytes_of t) t.first t.count
 
 -- the place at which the next slip is written
 abbrev pub next_of : Telegraph → ℕ
-next_of t = place t.room t.first t.count
+next_of t = place (places_of t) t.first t.count
 
 -- it works on the same lent buffer as before
 abbrev pub SameBuffer : Telegraph → Telegraph → Type 0
@@ -44,4 +44,4 @@ abbrev pub Unaltered : Telegraph → Telegraph → Type 0
 Unaltered t t' = t' ≡ t
 
 pub telegraph_formed : (t : Telegraph) → Formed (slips_of t)
-telegraph_formed t = formed_ring (bytes_of t) t.room t.first t.count t.readable
+telegraph_formed t = formed_ring (bytes_of t) t.first t.count t.readable

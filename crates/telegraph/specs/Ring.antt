@@ -1,5 +1,5 @@
 -- The slips that a ring of places holds, each place as long as a slip.
-use Rattle.std.specs.Prelude.{◌≡◌, ℕ, ◌+◌, ◌-◌, ◌*◌, ◌/◌, ◌<◌, min, true, cond, List, map, take, drop, is_ok, Ok, Err, Result, nat_lt}
+use Rattle.std.specs.Prelude.{◌≡◌, ℕ, ◌+◌, ◌-◌, ◌*◌, ◌/◌, ◌<◌, min, true, cond, List, length, map, take, drop, is_ok, Ok, Err, Result, nat_lt}
 use Rattle.slip.specs.Bytes.{decode, slip_length}
 use Rattle.slip.specs.declared.fault.Fault.{Fault}
 use Rattle.slip.specs.declared.paper.Message.{Message}
@@ -11,6 +11,10 @@ use Rattle.std.proofs.Math.Seq.{paste}
 -- the whole slips that so many bytes hold, at most 64
 abbrev pub room_of : ℕ → ℕ
 room_of bytes = min (bytes / slip_length) 64
+
+-- the places of a buffer
+abbrev pub places : List ℕ → ℕ
+places bs = room_of (length bs)
 
 -- the place k steps after the first, in a ring of n
 abbrev pub place : ℕ → ℕ → ℕ → ℕ
@@ -28,13 +32,13 @@ slip_read (Err f) = record { block = 0; to = West; message = Message.Clear; seri
 abbrev pub slip_at : List ℕ → ℕ → Slip
 slip_at bs q = slip_read (decode (slip_bytes_lem bs q))
 
--- the slips in the ring, oldest first
-abbrev pub ring : List ℕ → ℕ → ℕ → ℕ → List Slip
-ring bs n first count = map (λ k. slip_at bs (place n first k)) (range_with_len 0 count)
+-- the slips in a buffer's ring, oldest first
+abbrev pub ring : List ℕ → ℕ → ℕ → List Slip
+ring bs first count = map (λ k. slip_at bs (place (places bs) first k)) (range_with_len 0 count)
 
 -- each place in use can be read
-abbrev pub Readable : List ℕ → ℕ → ℕ → ℕ → Type 0
-Readable bs n first count = (k : ℕ) → k < count → is_ok (decode (slip_bytes_lem bs (place n first k))) ≡ true
+abbrev pub Readable : List ℕ → ℕ → ℕ → Type 0
+Readable bs first count = (k : ℕ) → k < count → is_ok (decode (slip_bytes_lem bs (place (places bs) first k))) ≡ true
 
 -- the buffer once a slip's bytes stand at a place, and nothing else is written
 abbrev pub stored : List ℕ → ℕ → List ℕ → List ℕ

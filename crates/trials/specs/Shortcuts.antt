@@ -13,8 +13,8 @@ use Rattle.rules.specs.declared.rows.OwnRow.{OwnRow}
 use Rattle.rules.specs.declared.rows.Permission.{Permission}
 use Rattle.rules.specs.declared.rows.RowState.{RowState}
 use Rattle.rules.specs.declared.rows.RowState.TheVariants.{Asking, Held, In, Withdrawing}
-use Rattle.rules.specs.declared.rows.Signal.{Signal}
 use Rattle.rules.specs.declared.rows.Word.{Word}
+use Rattle.slip.specs.declared.fault.Cause.{Cause}
 use Rattle.slip.specs.declared.paper.Message.{Message}
 use Rattle.slip.specs.declared.track.End.TheVariants.{East, West}
 use Rattle.trials.specs.Plays.{Played, Station, play, two_blocks}
@@ -27,13 +27,13 @@ Broken b p = Safe b (at_end p.after.ends 0 West) (at_end p.after.ends 0 East) (t
 -- a withdrawn row is freed at once, and not when RELEASED comes
 
 abbrev pub freeing_row : ℕ → Kept → OwnRow → RowState → Done Word
-freeing_row place k r Asking = (Ok (word Message.Withdraw r.serial), with_own k (without_newest k.own) Signal.Stop)
-freeing_row place k r (Held kind) = (Ok (word Message.Withdraw r.serial), with_own k (without_newest k.own) Signal.Stop)
-freeing_row place k r (In kind) = turned_away 7 place k
-freeing_row place k r Withdrawing = turned_away 7 place k
+freeing_row place k r Asking = (Ok (word Message.Withdraw r.serial), with_own k (without_newest k.own) None)
+freeing_row place k r (Held kind) = (Ok (word Message.Withdraw r.serial), with_own k (without_newest k.own) None)
+freeing_row place k r (In kind) = turned_away Cause.NoSuchRow place k
+freeing_row place k r Withdrawing = turned_away Cause.NoSuchRow place k
 
 abbrev pub freeing_of : ℕ → Kept → Option OwnRow → Done Word
-freeing_of place k None = turned_away 7 place k
+freeing_of place k None = turned_away Cause.NoSuchRow place k
 freeing_of place k (Some r) = freeing_row place k r r.state
 
 abbrev pub frees_early : Station

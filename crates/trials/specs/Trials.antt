@@ -8,6 +8,7 @@ use Rattle.rules.specs.Runs.{Event, MadeSilent, Run}
 use Rattle.rules.specs.Tally.{Entry, empty, tally}
 use Rattle.rules.specs.declared.calls.Call.{Call}
 use Rattle.slip.specs.Bytes.{encode, worked_slip}
+use Rattle.slip.specs.declared.fault.Cause.{Cause}
 use Rattle.slip.specs.declared.fault.Fault.{Fault}
 use Rattle.slip.specs.declared.paper.Message.{Message}
 use Rattle.slip.specs.declared.paper.Slip.{Slip}
@@ -111,13 +112,13 @@ pub record Trials : Type 0 where
   pub no_room : answers (play (by_rule class_book) (two_blocks (room_of 9) 0) (ask 0 1 F ∷ [])).events ≡ Err (full_wire 0) ∷ []
   pub room_for_one : answers (play (by_rule class_book) (two_blocks (room_of 10) 0) (ask 0 1 F ∷ repeat 0 1 ∷ withdraw 0 ∷ [])).events ≡ Ok 1 ∷ Err (full_wire 1) ∷ Ok 0 ∷ []
   pub last_serial : answers (play (by_rule class_book) (two_blocks 64 4294967294) (ask 0 1 F ∷ withdraw 0 ∷ deliver ∷ deliver ∷ deliver ∷ deliver ∷ ask 0 1 F ∷ [])).events ≡
-      Ok 4294967295 ∷ Ok 1 ∷ Ok 12 ∷ Ok 72 ∷ Ok 20 ∷ Ok 81 ∷ Err (station_fault 6 0) ∷ []
+      Ok 4294967295 ∷ Ok 1 ∷ Ok 12 ∷ Ok 72 ∷ Ok 20 ∷ Ok 81 ∷ Err (station_fault Cause.SerialsUsedUp 0) ∷ []
   -- a form copies the Held row, and lets its train in under a signal at Stop
   pub form_written : written_form 0 0 (day (ask 0 12 F ∷ deliver ∷ deliver ∷ [])).after ≡ Ok (record { block = 0; end = 0; serial = 1; train = record { number = 12 } })
-  pub form_unheld : written_form 0 1 (day []).after ≡ Err (station_fault 7 1)
+  pub form_unheld : written_form 0 1 (day []).after ≡ Err (station_fault Cause.NoSuchRow 1)
   pub form_nowhere : written_form 2 0 (day []).after ≡ Err (bad_argument 1)
   pub form_presented : heard_on (ask 0 12 F ∷ deliver ∷ deliver ∷ enter 0 12 ∷ present 0 2 12 ∷ present 0 1 12 ∷ []) ≡
-      Ok 1 ∷ Ok 12 ∷ Ok 21 ∷ Err (station_fault 9 0) ∷ Err (station_fault 8 0) ∷ Ok 1 ∷ []
+      Ok 1 ∷ Ok 12 ∷ Ok 21 ∷ Err (station_fault Cause.SignalAtStop 0) ∷ Err (station_fault Cause.OtherTrain 0) ∷ Ok 1 ∷ []
 
 -- the thirteen readable lines of the worked sheet
 abbrev pub sheet_lines : List Turn
@@ -130,7 +131,7 @@ choices_of e = e.choices
 pub record Sheet : Type 0 where
   pub run : Run (in_turn class_book) MadeSilent (day sheet_lines).events (day sheet_lines).after
   pub answers : heard_on sheet_lines ≡
-      Ok 1 ∷ Ok 12 ∷ Ok 21 ∷ Ok 1 ∷ Ok 1 ∷ Ok 2 ∷ Ok 51 ∷ Ok 12 ∷ Ok 41 ∷ Ok 1 ∷ Ok 61 ∷ Err (station_fault 7 1) ∷ Err nothing_waits ∷ []
+      Ok 1 ∷ Ok 12 ∷ Ok 21 ∷ Ok 1 ∷ Ok 1 ∷ Ok 2 ∷ Ok 51 ∷ Ok 12 ∷ Ok 41 ∷ Ok 1 ∷ Ok 61 ∷ Err (station_fault Cause.NoSuchRow 1) ∷ Err nothing_waits ∷ []
   -- what an onlooker counted of trains from west to east: one permission, one entry that spent it, one arrival
   pub given : length (tally empty (day sheet_lines).events 0).leaving.given ≡ 1
   pub entries : map choices_of (tally empty (day sheet_lines).events 0).leaving.entries ≡ (1 ∷ []) ∷ []

@@ -1,6 +1,6 @@
 // Slips that are damaged, and wires that repeat, reorder and fill up.
 use radio::Radio;
-use slip::{Class, End, Fault, Message, Slip, Train, malformed, read, write};
+use slip::{Cause, Class, End, Fault, Message, Slip, Train, read, write};
 use std::test::Fail;
 use telegraph::Telegraph;
 use wire::{Wire, full};
@@ -37,25 +37,31 @@ fn damaged(place: usize, byte: u8) -> Result<Slip, Fault> {
 
 #[test]
 fn each_field_is_named(rt: HostRuntime) {
-    assert_eq!(rt; damaged(0, 9), Err(malformed(1)));
-    assert_eq!(rt; damaged(1, 15), Err(malformed(2)));
-    assert_eq!(rt; damaged(2, 2), Err(malformed(3)));
-    assert_eq!(rt; damaged(3, 0x66), Err(malformed(4)));
-    assert_eq!(rt; damaged(4, 0x28), Err(malformed(5)));
-    assert_eq!(rt; damaged(0, 2), Err(malformed(4)));
-    assert_eq!(rt; read(&[0u8; 11]), Err(malformed(0)));
+    assert_eq!(rt; damaged(0, 9), Err(Cause::Unknown.at(1)));
+    assert_eq!(rt; damaged(1, 15), Err(Cause::Unknown.at(2)));
+    assert_eq!(rt; damaged(2, 2), Err(Cause::Unknown.at(3)));
+    assert_eq!(rt; damaged(3, 0x66), Err(Cause::Unknown.at(4)));
+    assert_eq!(rt; damaged(4, 0x28), Err(Cause::Unknown.at(5)));
+    assert_eq!(rt; damaged(0, 2), Err(Cause::Unknown.at(4)));
+    assert_eq!(rt; read(&[0u8; 11]), Err(Cause::Unknown.at(0)));
 }
 
 #[test]
 fn the_first_bad_field_counts(rt: HostRuntime) {
     let mut bytes = [7u8; 12];
-    assert_eq!(rt; write(&wanted(15, 0), &mut bytes), Err(malformed(2)));
-    assert_eq!(rt; write(&wanted(14, 10000), &mut bytes), Err(malformed(5)));
+    assert_eq!(rt;
+        write(&wanted(15, 0), &mut bytes),
+        Err(Cause::Unknown.at(2))
+    );
+    assert_eq!(rt;
+        write(&wanted(14, 10000), &mut bytes),
+        Err(Cause::Unknown.at(5))
+    );
     assert_eq!(rt; write(&wanted(14, 9999), &mut bytes), Ok(()));
     assert_eq!(rt; bytes, [1, 14, 1, 0x46, 0x27, 0x0f, 0, 0, 0, 1, 7, 7]);
     assert_eq!(rt;
         write(&wanted(14, 9999), &mut bytes[0..9]),
-        Err(malformed(0))
+        Err(Cause::Unknown.at(0))
     );
 }
 

@@ -1,6 +1,7 @@
 -- What a wire means: the slips that wait, oldest first, a room, and what put, take and fade make of them.
 use Rattle.std.specs.Prelude.{◌≡◌, ℕ, ◌<◌, cond, ◌⊎◌, List, [], ◌∷◌, ◌++◌, length, is_ok, Some, None, Ok, Err, Option, Result, ◌==◌, nat_lt, slice_index_or}
 use Rattle.slip.specs.Form.{InForm, bad_slip, first_bad}
+use Rattle.slip.specs.declared.fault.Cause.{Cause}
 use Rattle.slip.specs.declared.fault.Fault.{Fault}
 use Rattle.slip.specs.declared.paper.Slip.{Slip}
 
@@ -8,9 +9,9 @@ use Rattle.slip.specs.declared.paper.Slip.{Slip}
 abbrev pub Formed : List Slip → Type 0
 Formed ws = (k : ℕ) (d : Slip) → k < length ws → InForm (slice_index_or ws k d)
 
--- a full wire: number 11, layer 3, the slips that wait
+-- a full wire: its place is the number of slips that wait
 abbrev pub full_wire : ℕ → Fault
-full_wire waiting = record { number = 11; layer = 3; place = waiting }
+full_wire waiting = record { cause = Cause.WireFull; place = waiting }
 
 -- put refuses a slip out of form first, then a slip that finds as many waiting as there is room for
 abbrev pub put_answer : Slip → List Slip → ℕ → Result Unit Fault

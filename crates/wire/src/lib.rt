@@ -5,17 +5,13 @@ ghost use Rattle.std.specs.Prelude.{◌≡◌, ℕ, true, false, List, is_some, 
 ghost use Rattle.slip.specs.declared.paper.Slip.{Slip as Paper};
 ghost use Rattle.wire.specs.Waiting.{Formed, LawfulLoses, LawfulPicks, full_wire, put_after, put_answer};
 
-use slip::{Fault, Slip};
+use slip::{Cause, Fault, Slip};
 
-// The refusal of a full wire, with the slips that wait.
+// The refusal of a full wire, with the slips that wait: named here for all wires.
 pub fn full(waiting: u32) -> Fault
     ensures { result ≡ full_wire waiting }
 {
-    Fault {
-        number: 11,
-        layer: 3,
-        place: waiting,
-    }
+    Cause::WireFull.at(waiting)
 }
 
 // A list of waiting slips and a room. It may keep their order or not, and lose or repeat slips, as its own choice allows.
@@ -47,6 +43,8 @@ pub trait Wire {
     ghost takes: { Self → Maybe Paper → Self → Type 0 };
 
     ghost fades: { Self → Self → Type 0 };
+
+    // Each call says that the room stays, and a refused one that all does: facts of a call, which no type of a wire can hold.
 
     // Takes a slip in, behind those that wait, or refuses it and stays as it was.
     fn put(&mut self, slip: Slip) -> Result<(), Fault>

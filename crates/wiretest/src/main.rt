@@ -1,10 +1,6 @@
 // The lineman's test: slips from standard input, over a telegraph and over a radio.
 #![tactic(auto)]
 
-mod hex;
-mod passage;
-mod tell;
-
 use passage::try_wire;
 use radio::Radio;
 use std::io;
@@ -23,9 +19,9 @@ fn main(rt: HostRuntime) -> io::Result<()> {
     rt.stdin().read_to_end(&mut input)?;
     let mut bytes = [0u8; 640];
     let mut telegraph = Telegraph::new(&mut bytes);
-    let trial = try_wire(heap, "telegraph", &mut telegraph, MOST, input.as_slice())?;
+    let trial = try_wire(heap, "telegraph", &mut telegraph, MOST, &input)?;
     rt.print(trial.report.as_str())?;
     let mut radio = Radio::new(heap, &DRAWS)?;
-    let trial = try_wire(heap, "radio", &mut radio, MOST, input.as_slice())?;
+    let trial = try_wire(heap, "radio", &mut radio, MOST, &input)?;
     rt.print(trial.report.as_str())
 }

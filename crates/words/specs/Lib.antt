@@ -1,4 +1,3 @@
-pub mod Room
 pub mod Words
 pub mod Parted
 pub mod Spelling

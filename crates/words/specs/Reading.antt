@@ -1,5 +1,6 @@
 -- A line of a sheet as a call, or the fault at its first word out of place.
 use Rattle.std.specs.Prelude.{ℕ, min, List, Some, None, Ok, Err, Option, Result}
+use Rattle.slip.specs.declared.fault.Cause.{Cause}
 use Rattle.slip.specs.declared.fault.Fault.{Fault}
 use Rattle.slip.specs.declared.track.End.{End}
 use Rattle.std.specs.Option.{ok_or}
@@ -14,7 +15,7 @@ Reading T = Result T Fault × Left
 
 -- a line that cannot be read: number 13, layer 4; the place is the column, or 4,294,967,295 where a place cannot hold more
 abbrev pub unreadable_at : ℕ → Fault
-unreadable_at column = record { number = 13; layer = 4; place = min column 4294967295 }
+unreadable_at column = record { cause = Cause.Unreadable; place = min column 4294967295 }
 
 -- one reading after the other, as far as the first fault
 abbrev pub then_of : {S T : Type 0} → Result S Fault → Left → (S → Left → Reading T) → Reading T
@@ -49,8 +50,8 @@ abbrev pub end_reached : Left → Reading Unit
 end_reached l = end_of_line (next_word l).0 (next_word l).1
 
 -- a block, the end of it that calls, and a train
-abbrev pub place_and_train_lem : Left → Reading (ℕ × End × ℕ)
-place_and_train_lem l = then (place_at l) (λ p k. then (field number_of k) (λ train j. (Ok (p.0, p.1, train), j)))
+abbrev pub place_and_train : Left → Reading (ℕ × End × ℕ)
+place_and_train l = then (place_at l) (λ p k. then (field number_of k) (λ train j. (Ok (p.0, p.1, train), j)))
 
 -- a call that takes block and end
 abbrev pub at_place : (ℕ → End → Command) → Left → Reading Command
@@ -58,15 +59,15 @@ at_place call l = then (place_at l) (λ p k. (Ok (call p.0 p.1), k))
 
 -- a call that takes block, end and train
 abbrev pub of_train : (ℕ → End → ℕ → Command) → Left → Reading Command
-of_train call l = then (place_and_train_lem l) (λ p k. (Ok (call p.0 p.1 p.2), k))
+of_train call l = then (place_and_train l) (λ p k. (Ok (call p.0 p.1 p.2), k))
 
 -- asking takes a class too
-abbrev pub ask_at_lem : Left → Reading Command
-ask_at_lem l = then (place_and_train_lem l) (λ p k. then (field letter_of k) (λ class j. (Ok (Command.Ask p.0 p.1 p.2 class), j)))
+abbrev pub ask_at : Left → Reading Command
+ask_at l = then (place_and_train l) (λ p k. then (field letter_of k) (λ class j. (Ok (Command.Ask p.0 p.1 p.2 class), j)))
 
 -- the call of this name, with the arguments that it takes
 abbrev pub argued : Name → Left → Reading Command
-argued Name.Ask l = ask_at_lem l
+argued Name.Ask l = ask_at l
 argued Name.Withdraw l = at_place Command.Withdraw l
 argued Name.Show l = at_place Command.Show l
 argued Name.Enter l = of_train Command.Enter l

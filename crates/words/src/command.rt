@@ -17,7 +17,8 @@ pub enum Name {
 
 // A call with its arguments. Numbers go up to 99,999 and the class is any capital:
 // whether there is such a block, train or class is not judged here.
-#[derive(Clone, Copy, PartialEq, Debug)]
+// Block and end stand apart in each, as the calls of a line take them.
+#[derive(Clone, Copy, PartialEq, Eq, Debug)]
 pub enum Command {
     Ask {
         block: u32,

@@ -1,78 +1,75 @@
 // What one word says: a call's name, a number, an end or a class letter.
-ghost use Rattle.std.specs.Str.{bytes_eq};
+ghost use Rattle.std.specs.Prelude.{◌≡◌, ℕ, List, Option};
 ghost use Rattle.words.specs.Spelling.{end_of, letter_of, name_of, number_of};
-ghost use Rattle.std.specs.Prelude.{◌≡◌};
 
 use crate::command::Name;
 use slip::End;
 
-fn is(text: &[u8], word: &[u8]) -> bool
-    ensures { result ≡ bytes_eq text.now word.now }
-{
-    text == word
+// What a word can say: a value that its bytes spell.
+pub trait Spelled {
+    // what these bytes say
+    ghost said: { List ℕ → Option Self };
+
+    fn spelled(text: &[u8]) -> Option<Self>
+        ensures { result ≡ said text.now };
 }
 
-pub fn name(text: &[u8]) -> Option<Name>
-    ensures { result ≡ name_of text.now }
-{
-    if is(text, b"ask") {
-        Some(Name::Ask)
-    } else if is(text, b"withdraw") {
-        Some(Name::Withdraw)
-    } else if is(text, b"show") {
-        Some(Name::Show)
-    } else if is(text, b"enter") {
-        Some(Name::Enter)
-    } else if is(text, b"form") {
-        Some(Name::Form)
-    } else if is(text, b"arrive") {
-        Some(Name::Arrive)
-    } else if is(text, b"repeat") {
-        Some(Name::Repeat)
-    } else if is(text, b"deliver") {
-        Some(Name::Deliver)
-    } else if is(text, b"fade") {
-        Some(Name::Fade)
-    } else {
-        None
+impl Spelled for Name {
+    ghost said = { name_of };
+
+    fn spelled(text: &[u8]) -> Option<Self> {
+        match text {
+            b"ask" => Some(Name::Ask),
+            b"withdraw" => Some(Name::Withdraw),
+            b"show" => Some(Name::Show),
+            b"enter" => Some(Name::Enter),
+            b"form" => Some(Name::Form),
+            b"arrive" => Some(Name::Arrive),
+            b"repeat" => Some(Name::Repeat),
+            b"deliver" => Some(Name::Deliver),
+            b"fade" => Some(Name::Fade),
+            _ => None,
+        }
     }
 }
 
 // At most five digits, where a zero leads only if it stands alone.
-pub fn number(text: &[u8]) -> Option<u32>
-    ensures { result ≡ number_of text.now }
-{
-    if text.is_empty() || text.len() > 5 || (text.len() > 1 && text[0] == b'0') {
-        return None;
-    }
-    let mut n = 0;
-    for b in text {
-        if *b < b'0' || *b > b'9' {
+impl Spelled for u32 {
+    ghost said = { number_of };
+
+    fn spelled(text: &[u8]) -> Option<Self> {
+        if text.len() > 5 || matches!(text, [] | [b'0', _, ..]) {
             return None;
         }
-        n = 10 * n + u32::from(*b - b'0');
+        // digit by digit: `str::parse` proves too, but took more instructions than reading did before; `try_fold` would owe that no product overflows at any number
+        let mut n = 0;
+        for b in text {
+            n = 10 * n + char::from(*b).to_digit(10)?;
+        }
+        Some(n)
     }
-    Some(n)
 }
 
-pub fn end(text: &[u8]) -> Option<End>
-    ensures { result ≡ end_of text.now }
-{
-    if is(text, b"w") {
-        Some(End::West)
-    } else if is(text, b"e") {
-        Some(End::East)
-    } else {
-        None
+impl Spelled for End {
+    ghost said = { end_of };
+
+    fn spelled(text: &[u8]) -> Option<Self> {
+        match text {
+            b"w" => Some(End::West),
+            b"e" => Some(End::East),
+            _ => None,
+        }
     }
 }
 
 // A single capital, whether or not a class goes by it.
-pub fn letter(text: &[u8]) -> Option<char>
-    ensures { result ≡ letter_of text.now }
-{
-    match text {
-        [b @ b'A'..=b'Z'] => Some(char::from(*b)),
-        _ => None,
+impl Spelled for char {
+    ghost said = { letter_of };
+
+    fn spelled(text: &[u8]) -> Option<Self> {
+        match text {
+            [b @ b'A'..=b'Z'] => Some(char::from(*b)),
+            _ => None,
+        }
     }
 }

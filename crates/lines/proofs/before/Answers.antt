@@ -1,13 +1,10 @@
+use Rattle.std.proofs.Common.{eqb, ◌∙◌, rules, tests}
+use Rattle.std.proofs.lemmas.Iterator.{YieldsList-from_slice}
+use Rattle.std.proofs.lemmas.Iterator.Search.{position_from_yields_List}
+use Rattle.lines.proofs.First.{place_or_length}
 use Rattle.lines.proofs.before.Goals as goal
-use Rattle.lines.specs.Cuts.{span_from}
-use Rattle.std.proofs.lemmas.List.{at_drop_all, at_drop_more}
-use Rattle.std.proofs.Common.{rules}
 
-pub loop-n-preserved : goal.loop-n-preserved
-loop-n-preserved c = search (rules, at_drop_more (span_from c.loop-n.n c.args.mark) c.args.text.now)
-
-pub returns-else-text-n : goal.returns-else-text-n
-returns-else-text-n c = search (rules, at_drop_more (span_from c.loop-n.n c.args.mark) c.args.text.now)
-
-pub returns-after-loop-n : goal.returns-after-loop-n
-returns-after-loop-n c = search (rules, at_drop_all (span_from c.loop-n.n c.args.mark) c.args.text.now)
+pub returns-clause-value : goal.returns-clause-value
+returns-clause-value c =
+    let found = position_from_yields_List (λ b. eqb b c.args.mark) _ _ c.position.result c.position.ensures.ran (YieldsList-from_slice c.args.text.now cc) (λ x b q k. search (rules, tests)) in
+    c.unwrap_or.ensures ∙ place_or_length (λ b. eqb b c.args.mark) c.args.text.now c.position.result found

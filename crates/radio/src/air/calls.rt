@@ -1,8 +1,7 @@
 // Making a radio, and its put, take and fade.
-ghost use Rattle.std.specs.Prelude.{◌≡◌, ◌<◌, [], length, IfOk, slice_index_or};
-ghost use Rattle.radio.specs.Draws.{one_more};
+ghost use Rattle.std.specs.Prelude.{◌≡◌, ◌<◌, [], length, IfOk, IfNone, IfSome};
+ghost use Rattle.radio.specs.Draws.{draws_after, pick};
 ghost use Rattle.radio.specs.Holds.{Heard, Lost, Sent, byte_of, draws_of, slips_of};
-ghost use Rattle.std.specs.List.{remove};
 ghost use Rattle.wire.specs.Lawful.{faded_lawful, taken_lawful};
 ghost use Rattle.wire.specs.Waiting.{Faded, Taken};
 
@@ -20,41 +19,25 @@ const STAYS: u8 = 128;
 impl<'a> Radio<'a> {
     // A silent radio that draws from these bytes, with memory for all the slips that it may hold.
     pub fn new(heap: Global, draws: &'a [u8]) -> Result<Radio<'a>, AllocError>
-        ensures { IfOk result (λ w. (slips_of w ≡ []) × (draws_of w ≡ draws.now) × (w.used ≡ 0)) }
+        ensures { IfOk result (λ w. (slips_of w ≡ []) × (draws_of w ≡ draws.now)) }
     {
         let slips = Vec::with_capacity(heap, ROOM)?;
-        Ok(Radio {
-            slips,
-            draws,
-            used: 0,
-        })
+        Ok(Radio { slips, draws })
     }
 
-    // Uses the next byte.
-    fn draw(&mut self) -> u8
-        ensures byte { result ≡ byte_of self.old }
+    // Draws the next byte, 0 when none is left, and picks by it the place of a slip; draws nothing where none waits.
+    fn pick(&mut self) -> Option<(u8, usize)>
+        ensures none { IfNone result ((slips_of self.old ≡ []) × (self.new ≡ self.old)) }
+        ensures some { IfSome result (λ (byte, at). (byte ≡ byte_of self.old) × (at ≡ pick (slips_of self.old) byte) × (at < length (slips_of self.old))) }
         ensures slips { self.new.slips ≡ self.old.slips }
-        ensures draws { draws_of self.new ≡ draws_of self.old }
-        ensures used { self.new.used ≡ one_more (draws_of self.old) self.old.used }
+        ensures draws { draws_of self.new ≡ draws_after (slips_of self.old) (draws_of self.old) }
     {
-        if self.used < self.draws.len() {
-            let byte = self.draws[self.used];
-            self.used += 1;
-            byte
-        } else {
-            0
+        if self.slips.is_empty() {
+            return None;
         }
-    }
-
-    // Takes the slip at a place off the air.
-    fn lose(&mut self, at: usize) -> Slip
-        requires { at < length (slips_of self.old) }
-        ensures value { result ≡ slice_index_or (slips_of self.old) at result }
-        ensures slips { slips_of self.new ≡ remove (slips_of self.old) at }
-        ensures draws { draws_of self.new ≡ draws_of self.old }
-        ensures used { self.new.used ≡ self.old.used }
-    {
-        self.slips.remove(at)
+        let (byte, left) = self.draws.split_first().unwrap_or((&0, &[]));
+        self.draws = left;
+        Some((*byte, usize::from(*byte) % self.slips.len()))
     }
 }
 
@@ -88,23 +71,18 @@ impl<'a> Wire for Radio<'a> {
         Ok(())
     }
 
+    #[tactic(auto, using(crate::proofs::Picks::picked_some, crate::proofs::Picks::taken_goes, crate::proofs::Picks::taken_stays))]
     fn take(&mut self) -> Option<Slip> {
-        if self.slips.is_empty() {
-            return None;
-        }
-        let byte = self.draw();
-        let at = byte as usize % self.slips.len();
+        let (byte, at) = self.pick()?;
         if byte >= STAYS {
             return Some(self.slips[at]);
         }
-        Some(self.lose(at))
+        Some(self.slips.remove(at))
     }
 
     fn fade(&mut self) {
-        if !self.slips.is_empty() {
-            let byte = self.draw();
-            let at = byte as usize % self.slips.len();
-            self.lose(at);
+        if let Some((_, at)) = self.pick() {
+            self.slips.remove(at);
         }
     }
 }

@@ -1,32 +1,23 @@
 // What the operators' calls do at an end: each method equals its rule, in answer and record together.
-ghost use Rattle.rules.specs.Ends.{idle, station_fault};
+// Each is told its place, which its refusals name. That a refusal leaves the record as it was follows from the rule, and is said beside it for
+// the reader: a fact of a call and not of a record, so that no type holds it.
+ghost use Rattle.rules.specs.Ends.{idle};
 ghost use Rattle.rules.specs.Moves.{arrived, entered, go_in_lem, held as held_row, next_serial_lem, presented, repeated, shown, withdrawn};
-ghost use Rattle.station.specs.Records.{asking_noted, first, kept, made_move};
-ghost use Rattle.std.specs.Prelude.{◌≡◌, ◌<◌, true, false, is_some, is_ok, IfOk, vec_len, nat_lt};
+ghost use Rattle.station.specs.Records.{asking_noted};
+ghost use Rattle.std.specs.Prelude.{◌≡◌, ◌<◌, ◌≤◌, true, false, is_some, is_ok, IfOk, length};
 
-use super::{Move, Station};
-use rules::{HeldRow, OwnRow, Permission, PromisedRow, RowState, Signal, Word};
-use slip::{Class, Fault, Message, Train};
+use super::{Asking, Station};
+use rules::{HeldRow, Permission, RowState, Word};
+use slip::{Cause, Fault, Message, Train};
 use std::alloc::{AllocError, Global};
 
 // How many rows a list of rows has at most.
 const MOST: usize = 4;
 
-// A station turns a call away.
-fn turned(number: u8, place: u32) -> Fault
-    ensures { result ≡ station_fault number place }
-{
-    Fault {
-        number,
-        layer: 2,
-        place,
-    }
-}
-
 impl Station {
     // An end with no rows, its signal at Stop, and memory for all the rows that it may come to have.
     pub fn new(heap: Global, start: u32) -> Result<Station, AllocError>
-        ensures { IfOk result (λ s. kept s ≡ idle start) }
+        ensures { IfOk result (λ s. s ≡ idle start) }
     {
         let own = Vec::with_capacity(heap, MOST)?;
         let promised = Vec::with_capacity(heap, MOST)?;
@@ -35,74 +26,70 @@ impl Station {
             promised,
             used: start,
             heard: start,
-            signal: Signal::Stop,
+            signal: None,
         })
     }
 
     // The serial of a new asking for a train, or why there is none.
     pub fn next_serial(&self, place: u32, train: Train) -> Result<u32, Fault>
-        ensures { result ≡ next_serial_lem place train (kept self.now) }
+        ensures value { result ≡ next_serial_lem place train self.now }
+        ensures few { (length self.now.own ≤ 4) × (length self.now.promised ≤ 4) }
     {
         if !self.promised.is_empty() {
-            return Err(turned(2, place));
+            return Err(Cause::HasPromised.at(place));
         }
         if !self.is_all_in() {
-            return Err(turned(3, place));
+            return Err(Cause::RowOpen.at(place));
         }
         if self.own.len() >= MOST {
-            return Err(turned(4, place));
+            return Err(Cause::RowsFull.at(place));
         }
         if self.row_of(train).is_some() {
-            return Err(turned(5, place));
+            return Err(Cause::TrainHasRow.at(place));
         }
         if self.used == u32::MAX {
-            return Err(turned(6, place));
+            return Err(Cause::SerialsUsedUp.at(place));
         }
         Ok(self.used + 1)
     }
 
-    // Notes a new asking; false, and nothing noted, where there is no place for its row.
-    pub fn note_asking(&mut self, serial: u32, train: Train, class: Class) -> bool
-        ensures { (result, kept self.new) ≡ asking_noted serial train class (kept self.old) }
+    // Notes a new asking; none, and nothing noted, where there is no place for its row (any caller may ask, so that it cannot be required).
+    pub fn note_asking(&mut self, asking: Asking) -> Option<()>
+        ensures { (result, self.new) ≡ asking_noted asking self.old }
     {
         if self.own.len() >= MOST {
-            return false;
+            return None;
         }
-        self.own.push_reserved(OwnRow {
-            serial,
-            train,
-            class,
-            state: RowState::Asking,
-        });
-        self.used = serial;
-        true
+        self.own.push_reserved(asking.into_own_row());
+        self.used = asking.serial;
+        Some(())
     }
 
     // Takes the newest asking back.
     pub fn withdraw(&mut self, place: u32) -> Result<Word, Fault>
-        ensures value { (result, kept self.new) ≡ withdrawn place (kept self.old) }
+        ensures value { (result, self.new) ≡ withdrawn place self.old }
         ensures refused { is_ok result ≡ false → self.new ≡ self.old }
     {
         let Some(row) = self.newest_row() else {
-            return Err(turned(7, place));
+            return Err(Cause::NoSuchRow.at(place));
         };
         match row.state {
             RowState::Asking | RowState::Held(_) => {
                 self.renew(row, RowState::Withdrawing);
-                self.signal = Signal::Stop;
+                self.signal = None;
                 Ok(Word {
                     message: Message::Withdraw,
                     serial: row.serial,
                 })
             }
-            RowState::In(_) | RowState::Withdrawing => Err(turned(7, place)),
+            RowState::In(_) | RowState::Withdrawing => Err(Cause::NoSuchRow.at(place)),
         }
     }
 
     // The Held row, if there is one.
     pub fn held(&self) -> Option<HeldRow>
-        ensures value { result ≡ held_row (kept self.now) }
-        ensures some { is_some result ≡ true → 0 < vec_len self.now.own }
+        ensures value { result ≡ held_row self.now }
+        ensures some { is_some result ≡ true → 0 < length self.now.own }
     {
         let row = self.newest_row()?;
         match row.state {
@@ -113,76 +100,66 @@ impl Station {
 
     // Shows at the signal what is held.
     pub fn show(&mut self, place: u32) -> Result<Permission, Fault>
-        ensures value { (result, kept self.new) ≡ shown place (kept self.old) }
+        ensures value { (result, self.new) ≡ shown place self.old }
         ensures refused { is_ok result ≡ false → self.new ≡ self.old }
     {
-        let held = self.held().ok_or(turned(7, place))?;
-        self.signal = Signal::Off(held.permission);
+        let held = self.held().ok_or(Cause::NoSuchRow.at(place))?;
+        self.signal = Some(held.permission);
         Ok(held.permission)
     }
 
     // The Held row's train goes in.
-    fn go_in(&mut self, held: HeldRow) -> Result<Word, Fault>
-        requires { 0 < vec_len self.old.own }
-        ensures value { (result, kept self.new) ≡ go_in_lem (kept self.old) held }
-        ensures done { is_ok result ≡ true }
+    fn go_in(&mut self, held: HeldRow) -> Word
+        ensures { (Ok result, self.new) ≡ go_in_lem self.old held }
     {
         self.renew(held.row, RowState::In(held.permission));
-        self.signal = Signal::Stop; // behind the train
-        Ok(Word {
+        self.signal = None; // behind the train
+        Word {
             message: Message::Entered,
             serial: held.row.serial,
-        })
+        }
     }
 
     // Reports that a train has passed the signal.
     pub fn enter(&mut self, place: u32, train: Train) -> Result<Word, Fault>
-        ensures value { (result, kept self.new) ≡ entered place train (kept self.old) }
+        ensures value { (result, self.new) ≡ entered place train self.old }
         ensures refused { is_ok result ≡ false → self.new ≡ self.old }
     {
-        let held = self.held().ok_or(turned(7, place))?;
-        if !held.row.train.is_same(train) {
-            return Err(turned(8, place));
+        let held = self.held().ok_or(Cause::NoSuchRow.at(place))?;
+        if held.row.train != train {
+            return Err(Cause::OtherTrain.at(place));
         }
-        if let Signal::Stop = self.signal {
-            return Err(turned(9, place));
+        if self.signal.is_none() {
+            return Err(Cause::SignalAtStop.at(place));
         }
-        self.go_in(held)
+        Ok(self.go_in(held))
     }
 
-    // Lets a train pass the signal at Stop, by a form of this serial and train.
+    // Lets a train pass the signal at Stop, by a form of this serial and train, which stand on it as two numbers.
     pub fn present(&mut self, place: u32, serial: u32, train: Train) -> Result<Word, Fault>
-        ensures value { (result, kept self.new) ≡ presented place serial train (kept self.old) }
+        ensures value { (result, self.new) ≡ presented place serial train self.old }
         ensures refused { is_ok result ≡ false → self.new ≡ self.old }
     {
-        let held = self.held().ok_or(turned(7, place))?;
-        if held.row.serial != serial || !held.row.train.is_same(train) {
-            return Err(turned(8, place));
+        let held = self.held().ok_or(Cause::NoSuchRow.at(place))?;
+        if held.row.serial != serial || held.row.train != train {
+            return Err(Cause::OtherTrain.at(place));
         }
-        self.go_in(held)
-    }
-
-    // The oldest promise, if there is one.
-    fn oldest_promise(&self) -> Option<PromisedRow>
-        ensures value { result ≡ first (kept self.now).promised }
-        ensures test { is_some result ≡ nat_lt 0 (vec_len self.now.promised) }
-    {
-        self.promised.first().copied()
+        Ok(self.go_in(held))
     }
 
     // Ends the oldest promise, whose train has arrived.
     pub fn arrive(&mut self, place: u32, train: Train) -> Result<Word, Fault>
-        ensures value { (result, kept self.new) ≡ arrived place train (kept self.old) }
+        ensures value { (result, self.new) ≡ arrived place train self.old }
         ensures refused { is_ok result ≡ false → self.new ≡ self.old }
     {
-        let Some(oldest) = self.oldest_promise() else {
-            return Err(turned(7, place));
+        let Some(oldest) = self.promised.first().copied() else {
+            return Err(Cause::NoSuchRow.at(place));
         };
-        if !oldest.train.is_same(train) {
-            return Err(turned(8, place));
+        if oldest.train != train {
+            return Err(Cause::OtherTrain.at(place));
         }
         if !oldest.reported {
-            return Err(turned(10, place));
+            return Err(Cause::NotReported.at(place));
         }
         self.promised.remove(0);
         Ok(Word {
@@ -193,15 +170,15 @@ impl Station {
 
     // What the train's own row stands for, to be said again.
     pub fn repeat(&self, place: u32, train: Train) -> Result<Word, Fault>
-        ensures { result ≡ repeated place train (kept self.now) }
+        ensures { result ≡ repeated place train self.now }
     {
-        let row = self.row_of(train).ok_or(turned(7, place))?;
+        let row = self.row_of(train).ok_or(Cause::NoSuchRow.at(place))?;
         let message = match row.state {
             RowState::Asking => Message::Wanted {
                 train: row.train,
                 class: row.class,
             },
-            RowState::Held(_) => return Err(turned(7, place)),
+            RowState::Held(_) => return Err(Cause::NoSuchRow.at(place)),
             RowState::In(_) => Message::Entered,
             RowState::Withdrawing => Message::Withdraw,
         };
@@ -209,18 +186,5 @@ impl Station {
             message,
             serial: row.serial,
         })
-    }
-
-    // Makes one of the moves that say a word to the other end.
-    pub fn make(&mut self, place: u32, mv: Move) -> Result<Word, Fault>
-        ensures value { (result, kept self.new) ≡ made_move place mv (kept self.old) }
-        ensures refused { is_ok result ≡ false → self.new ≡ self.old }
-    {
-        match mv {
-            Move::Withdraw => self.withdraw(place),
-            Move::Enter { train } => self.enter(place, train),
-            Move::Present { serial, train } => self.present(place, serial, train),
-            Move::Arrive { train } => self.arrive(place, train),
-        }
     }
 }

@@ -1,21 +1,24 @@
-use Rattle.std.proofs.Common.{ℕ, List, ◌++◌, string_bytes, refl, ap, ◌∙◌}
+use Rattle.std.proofs.Common.{◌++◌, string_bytes, refl, ap, ◌∙◌}
 use Rattle.line.specs.Models.{model, setting}
-use Rattle.lines.specs.Lines.{rest_of}
-use Rattle.sheet.proofs.Turns.{all_done, cut_off, none_yet, one_more}
+use Rattle.sheet.proofs.Turns.{all_done, none_yet, one_more}
 use Rattle.sheet.proofs.run.perform_sheet.Goals as goal
+use Rattle.sheet.specs.Report.{line_text}
+use Rattle.sheet.specs.declared.report.Entry.{Entry}
+use Rattle.std.proofs.lemmas.List.{take_min}
+use Rattle.std.specs.Iterator.Adapters.{enumerate_count, enumerate_source}
 
-pub loop-text-init : goal.loop-text-init
-loop-text-init g c =
-    let s = setting g.B.RuleBook.limit g.B.RuleBook.admits g.W.Wire.picks g.W.Wire.loses in
-    let m = model {B = g.row.B.Denot} g.W.Wire.waiting g.W.Wire.room c.args.line.now in
-    let whole = c.new-lines.ensures ∙ cut_off c.min.result c.args.input.now c.min.ensures in
-    rw c.new-report.ensures.bytes (none_yet s m c.args.input.now (rest_of c.new-lines.result) whole)
+pub loop-index-init : goal.loop-index-init
+loop-index-init g c =
+    let s = setting c.args.line.now in
+    let m = model c.args.line.now in
+    let it = c.into_iter-index-iterator in
+    none_yet s m c.args.input.now _ (enumerate_source it.result) (enumerate_count it.result) c.new-report.ensures.bytes (cc (take_min 65536 c.args.input.now)) (cc)
 
-pub loop-text-preserved : goal.loop-text-preserved
-loop-text-preserved g c =
-    let e = c.in-Some.ensures in
-    let text = c.in_ok-push_str.ensures.bytes ∙ ap (λ (t : List ℕ). string_bytes c.loop-text.report ++ t) (c.as_str.ensures.value ∙ c.in_ok-entry.ensures) in
-    rw text (one_more c.loop-text.invariant c.in-Some.text.now (rest_of c.next_line.new.self) c.perform_line.result c.number_of-answer.result _ e.all (e.less refl) c.number_of-answer.ensures c.perform_line.ensures)
+pub loop-index-preserved : goal.loop-index-preserved
+loop-index-preserved g c =
+    let e = c.in-Some.ensures.steps in
+    let text = c.in_ok-write.ensures.bytes ∙ ap (λ (x : Entry). string_bytes c.loop-index.report ++ line_text x.line x.answer) c.new-entry.ensures in
+    rw (text, e.1, e.2) (one_more c.loop-index.invariant c.in-Some.text.now (enumerate_source c.next.new.self) c.perform_line.result _ _ e.0.all refl c.perform_line.ensures)
 
 pub returns : goal.returns
-returns g c = all_done c.loop-text.invariant c.in_default.ensures.all
+returns g c = all_done c.loop-index.invariant c.in-None.ensures.steps.0.all

@@ -1,9 +1,7 @@
 use Rattle.rules.specs.Hearing.{marked}
 use Rattle.station.proofs.end.Station.mark.Given as goal
-use Rattle.std.proofs.Common.{◌≡◌, ◌++◌, map, take, drop, vec_items, vec_len}
+use Rattle.std.proofs.Common.{◌≡◌, ◌++◌, map, take, drop}
 
-abbrev pub invariant-loop-i : goal.invariant-loop-i
-invariant-loop-i l =
-    (vec_items l.self.promised ≡ map (marked l.serial) (take l.i (vec_items l.initial.self.promised)) ++ drop l.i (vec_items l.initial.self.promised))
-    × (vec_len l.self.promised ≡ vec_len l.initial.self.promised)
-    × (l.self.own ≡ l.initial.self.own) × (l.self.used ≡ l.initial.self.used) × (l.self.heard ≡ l.initial.self.heard) × (l.self.signal ≡ l.initial.self.signal)
+-- the rows so far are marked, and the others are as they were
+abbrev pub invariant-loop-row : goal.invariant-loop-row
+invariant-loop-row l = l.row-items ≡ map (marked l.serial) (take l.row-index l.initial.row-items) ++ drop l.row-index l.initial.row-items

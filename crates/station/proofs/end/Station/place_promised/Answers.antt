@@ -1,19 +1,11 @@
+use Rattle.std.proofs.Common.{rules, tests}
 use Rattle.rules.specs.Ends.{promise_of}
-use Rattle.rules.specs.declared.rows.PromisedRow.{PromisedRow}
-use Rattle.station.proofs.Searches.{placed_next, placed_none, sofar_more}
+use Rattle.station.proofs.Rows.{placed}
+use Rattle.std.proofs.lemmas.Iterator.{YieldsList-from_slice}
+use Rattle.std.proofs.lemmas.Iterator.Search.{position_from_yields_List}
 use Rattle.station.proofs.end.Station.place_promised.Goals as goal
-use Rattle.station.specs.Places.{Placed}
-use Rattle.std.proofs.Common.{List, Some, None, subst, eq-eqb, ne_eqb}
-
-pub returns-then-row-serial : goal.returns-then-row-serial
-returns-then-row-serial c =
-    subst (λ (rows : List PromisedRow). Placed (promise_of c.args.serial) rows (Some c.loop-i.i)) c.as_slice-rows.ensures.value
-    (placed_next (promise_of c.args.serial) c.as_slice-rows.result.now c.loop-i.i _ c.loop-i.invariant c.loop-i-test.true (eq-eqb _ _ c.if-row-serial.true))
-
-pub loop-i-preserved : goal.loop-i-preserved
-loop-i-preserved c = sofar_more (promise_of c.args.serial) c.as_slice-rows.result.now c.loop-i.i c.loop-i.invariant _ c.loop-i-test.true (ne_eqb _ _ c.if-row-serial.false)
 
 pub returns : goal.returns
 returns c =
-    subst (λ (rows : List PromisedRow). Placed (promise_of c.args.serial) rows None) c.as_slice-rows.ensures.value
-    (placed_none (promise_of c.args.serial) c.as_slice-rows.result.now c.loop-i.i c.loop-i.invariant c.loop-i-test.false)
+    rw (← c.self.view_is) (placed (promise_of c.args.serial) _ _
+    (position_from_yields_List (promise_of c.args.serial) _ _ c.position.result c.position.ensures.ran (YieldsList-from_slice c.self.inside.promised.items cc) (λ x b q k. search (rules, tests))))

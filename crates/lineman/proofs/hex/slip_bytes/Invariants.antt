@@ -1,7 +1,0 @@
-use Rattle.std.proofs.Common.{◌≡◌, ◌*◌, length, take, drop}
-use Rattle.lineman.proofs.Spelling.{before}
-use Rattle.lineman.proofs.hex.slip_bytes.Given as goal
-use Rattle.lineman.specs.Hex.{bytes_of}
-
-abbrev pub invariant-loop-i : goal.invariant-loop-i
-invariant-loop-i l = (length l.bytes ≡ 10) × (bytes_of l.line ≡ before (take l.i l.bytes) (bytes_of (drop (2 * l.i) l.line)))

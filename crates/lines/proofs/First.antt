@@ -1,16 +1,15 @@
 -- The first line of some bytes, and the lines after it.
-use Rattle.std.proofs.Common.{◌≡◌, ℕ, ◌+◌, ◌<◌, ◌≤◌, Bool, List, [], ◌∷◌, length, take, drop, None, Some, Option, position, unwrap_or, refl, ap, arith, length-drop}
+use Rattle.std.proofs.Common.{◌≡◌, ℕ, ◌+◌, ◌<◌, Bool, List, [], ◌∷◌, length, take, drop, None, Some, Option, position, unwrap_or, refl, ap, arith, length-drop}
 use Rattle.lines.specs.Cuts.{span}
 use Rattle.lines.specs.Lines.{TakesLine, lines_of}
 use Rattle.std.proofs.lemmas.Grind.{common_steps}
-use Rattle.std.proofs.lemmas.Iterator.{YieldsList}
-use Rattle.std.proofs.lemmas.Iterator.Consumers.{YieldsList-from_shown}
 use Rattle.std.proofs.lemmas.List.Sums.{prefix_len-le-length}
 use Rattle.std.proofs.lemmas.List.{length-take}
 use Rattle.std.specs.Borrow.{Bor}
 use Rattle.std.specs.Iterator.{MakesProgress, at_most}
 use Rattle.std.specs.List.{onto_first, position_or_len}
 
+-- the first place that passes, or the length where none does
 pub place_or_length : {X : Type 0} (p : X → Bool) (xs : List X) (o : Option ℕ) → o ≡ position p xs → unwrap_or o (length xs) ≡ position_or_len p xs
 place_or_length p xs o found = grind (arith, common_steps, prefix_len-le-length)
 
@@ -33,12 +32,3 @@ takes_line (b ∷ bs) l t some line rest = record {
 pub fewer_left : (s : List ℕ) (r : Option (Bor (List ℕ))) (t : List ℕ) → TakesLine s r t → MakesProgress (λ _. Unit {0}) (λ bs. at_most (length bs)) s r t
 fewer_left s None t h = record { on = λ _. tt; keeps = tt; rests = λ _. tt }
 fewer_left s (Some l) t h = record { on = λ _. (tt, tt, h.less refl); keeps = tt; rests = λ _. tt }
-
--- every line comes, in order
-pub lines_come : (bs : List ℕ) → YieldsList TakesLine (λ l. l.now) bs (lines_of bs)
-lines_come = YieldsList-from_shown TakesLine (λ l. l.now) lines_of (λ s t h. ap (λ bs. length (lines_of bs)) h.all) (λ s l t h. h.all)
-
--- there are no more lines than bytes
-pub few_lines : (bs : List ℕ) → length (lines_of bs) ≤ length bs
-few_lines [] = omega arith
-few_lines (b ∷ bs) = let fewer = few_lines bs in grind (arith, common_steps)

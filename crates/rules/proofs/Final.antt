@@ -9,7 +9,8 @@ use Rattle.rules.proofs.Sound.{Backs, InAt, Is, RowOk, Rows}
 use Rattle.rules.proofs.StepGive.{one_row}
 use Rattle.rules.proofs.Told.{Spent, SpentIn, Told}
 use Rattle.rules.proofs.ToldGive.{none_between, none_each}
-use Rattle.rules.proofs.Tools.{all_weaker, any_all, any_out, any_weaker, each_any, each_length, keeping_none, length-map, test}
+use Rattle.rules.proofs.Tools.{all_weaker, any_all, any_out, any_weaker, each_any, each_length, keeping_none, test}
+use Rattle.std.proofs.lemmas.List.{length-map}
 use Rattle.rules.specs.Ends.{Kept, is_in_lem}
 use Rattle.rules.specs.Lists.{All, Any, find, keeping, newest}
 use Rattle.rules.specs.Moves.{is_some}
@@ -37,7 +38,7 @@ trains_few : (b : Book) (own : List OwnRow) (U : ℕ) (ps : List PromisedRow) (H
 trains_few b own U ps H τ j =
     let none : keeping (λ t. not (among (map train_of τ.promises) t)) τ.between ≡ [] =
     keeping_none (λ t. not (among (map train_of τ.promises) t)) τ.between (all_weaker (λ t a e. let m : among (map train_of τ.promises) t ≡ true = among_spent t τ.promises a in grind (arith, m, e)) τ.between j.between) in
-    rw (none, append-nil (map train_of τ.promises)) (omega (arith, length-map train_of τ.promises, each_length SamePermission τ.promises ps j.same, j.limit))
+    rw (none, append-nil (map train_of τ.promises)) (omega (arith, length-map τ.promises train_of, each_length SamePermission τ.promises ps j.same, j.limit))
 
 trains_none : (τ : Tally) → Free τ → trains τ ≡ []
 trains_none τ c = let x : τ.promises ≡ [] = c.promised in let y : τ.between ≡ [] = c.between in rw (x, y)

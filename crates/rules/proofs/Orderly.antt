@@ -1,7 +1,8 @@
 -- The rows of one end stay in order, whatever is called there.
 use Rattle.std.proofs.Common.{◌≡◌, ℕ, ◌+◌, ◌<◌, ◌≤◌, Bool, true, false, ◌&&◌, eqb, List, [], ◌∷◌, ◌++◌, map, length, Some, None, Option, sym, refl, subst, arith}
 use Rattle.rules.proofs.Newest.{renewed_map, restate}
-use Rattle.rules.proofs.Tools.{all_both, all_keeping, all_map, all_push, all_weaker, length_keeping, length-map, length_push, pairs_keeping, pairs_map, pairs_push, test}
+use Rattle.rules.proofs.Tools.{all_both, all_keeping, all_map, all_push, all_weaker, length_keeping, pairs_keeping, pairs_map, pairs_push, test}
+use Rattle.std.proofs.lemmas.List.{length-append, length-map}
 use Rattle.rules.specs.Ends.{Kept, idle, is_in_lem, is_stop, newest_to, own_of_train, with_own, with_promised}
 use Rattle.rules.specs.Lists.{All, Pairwise, find, keeping, newest}
 use Rattle.rules.specs.Moves.{Done, all_in, arrive_of, arrived, enter_of, entered, go_in_lem, held, held_as, held_of, is_some, new_row, present_of, presented, show_of, shown, with_asking, withdraw_of, withdraw_row, withdrawn}
@@ -54,7 +55,7 @@ changed : (k : Kept) (g : ℕ → RowState → RowState) → InStays g → Order
 changed k g h o = record {
   rules = record {
     own_order = pairs_map Older Older (restate g) (λ r q b. record { serial = b.serial; gone_in = still_in g h r.serial r.state b.gone_in; train = b.train }) k.own o.rules.own_order;
-    own_few = omega (arith, length-map (restate g) k.own, o.rules.own_few);
+    own_few = omega (arith, length-map k.own (restate g), o.rules.own_few);
     promised_order = o.rules.promised_order;
     promised_few = o.rules.promised_few;
     signal = tt;
@@ -117,7 +118,7 @@ ask_orderly k t c e few none o = record {
     own_order = pairs_push Older k.own (new_row (k.used + 1) t c) o.rules.own_order
         (all_both _ _ (λ r. Older r (new_row (k.used + 1) t c)) (λ r u b. record { serial = omega (arith, u); gone_in = b.0; train = b.1 }) k.own o.used
         (all_both _ _ (λ r. (is_in_lem r.state ≡ true) × (same_train r.train t ≡ false)) (λ r a b. (a, b)) k.own (everyone_in k.own o.rules.own_order e) (no_train t k.own none)));
-    own_few = omega (arith, length_push k.own (new_row (k.used + 1) t c), few);
+    own_few = omega (arith, length-append k.own ((new_row (k.used + 1) t c) ∷ []), few);
     promised_order = o.rules.promised_order;
     promised_few = o.rules.promised_few;
     signal = subst (λ (g : Signal). Shows (newest (k.own ++ (new_row (k.used + 1) t c ∷ []))) g) (sym (ask_stops k e o)) tt;

@@ -3,7 +3,8 @@ use Rattle.std.proofs.Common.{◌≡◌, ℕ, ◌<◌, ◌≤◌, max, Bool, tru
 use Rattle.book.specs.Books.{Book, Lawful}
 use Rattle.rules.proofs.Newest.{first_keeping, leaves, newest_keeping, shorter_keeping}
 use Rattle.rules.proofs.Orderly.{Orderly, fewer, renewed_orderly, stops, with_rows}
-use Rattle.rules.proofs.Tools.{all_keeping, all_map, all_push, all_weaker, length_keeping, length-map, length_push, pairs_keeping, pairs_map, pairs_push, pairs_weaker, test}
+use Rattle.rules.proofs.Tools.{all_keeping, all_map, all_push, all_weaker, length_keeping, pairs_keeping, pairs_map, pairs_push, pairs_weaker, test}
+use Rattle.std.proofs.lemmas.List.{length-append, length-map}
 use Rattle.rules.specs.Ends.{Kept, is_asking, is_in_lem, is_withdrawing, newest_to, own_in, promise_of, with_own, with_promised}
 use Rattle.rules.specs.Hearing.{admitted, against_own, behind_promised, counted, dropped, dropping, grant_row, granted, hears, marked, new_promise, out_of, promising, refusing, reported_of, wanted_of, withdraw_heard}
 use Rattle.rules.specs.Lists.{Pairwise, find, how_many, keeping, newest, without_first}
@@ -80,7 +81,7 @@ out_orderly s k (Some r) o = subst (λ (l : List OwnRow). Orderly (with_own k l 
 report_orderly : (s : ℕ) (k : Kept) (x : Option PromisedRow) → Orderly k → Orderly (reported_of s k x).1
 report_orderly s k None o = o
 report_orderly s k (Some p) o = with_rows k (map (marked s) k.promised) k.heard
-    (pairs_map Lower Lower (marked s) (λ p q h. h) k.promised o.rules.promised_order) (omega (arith, length-map (marked s) k.promised, o.rules.promised_few))
+    (pairs_map Lower Lower (marked s) (λ p q h. h) k.promised o.rules.promised_order) (omega (arith, length-map k.promised (marked s), o.rules.promised_few))
     (all_map (λ p. p.serial ≤ k.heard) (marked s) k.promised o.heard) o
 
 pub promise_keeping : (s : ℕ) (ps : List PromisedRow) → Pairwise Lower ps → without_first (promise_of s) ps ≡ keeping (λ p. not (promise_of s p)) ps
@@ -104,7 +105,7 @@ room_left b law c ps e = below (cases_lt (length ps) b.limit)
 promise_orderly : (k : Kept) (s : ℕ) (t : Train) (c : Class) (kind : Permission) → k.heard < s → length k.promised < 4 → Orderly k → Orderly (promising s t c kind k).1
 promise_orderly k s t c kind l f o = with_rows k (k.promised ++ (new_promise s t c kind ∷ [])) s
     (pairs_push Lower k.promised (new_promise s t c kind) o.rules.promised_order (all_weaker (λ p h. omega arith) k.promised o.heard))
-    (omega (arith, length_push k.promised (new_promise s t c kind), f))
+    (omega (arith, length-append k.promised ((new_promise s t c kind) ∷ []), f))
     (all_push (λ p. p.serial ≤ s) k.promised (new_promise s t c kind) (all_weaker (λ p h. omega arith) k.promised o.heard) (omega arith)) o
 
 refusing_orderly : (k : Kept) (s : ℕ) → k.heard < s → Orderly k → Orderly (refusing s k).1

@@ -5,7 +5,8 @@ use Rattle.rules.proofs.OrderlyHeard.{room_left}
 use Rattle.rules.proofs.Sound.{Asked, NotAt}
 use Rattle.rules.proofs.StepGive.{besides}
 use Rattle.rules.proofs.Told.{NoteIs, NotedRow, Spent, SpentIn, Told}
-use Rattle.rules.proofs.Tools.{all_keeping, all_map, all_push, all_weaker, any_left, any_out, any_weaker, both_keeping, each_all, each_any, each_length, each_push, each_turn, find_any, length-map, length_push, test}
+use Rattle.rules.proofs.Tools.{all_keeping, all_map, all_push, all_weaker, any_left, any_out, any_weaker, both_keeping, each_all, each_any, each_length, each_push, each_turn, find_any, test}
+use Rattle.std.proofs.lemmas.List.{length-append, length-map}
 use Rattle.rules.proofs.Trains.{same_turn}
 use Rattle.rules.specs.Ends.{promise_of}
 use Rattle.rules.specs.Hearing.{admitted, counted, marked, new_promise}
@@ -66,11 +67,11 @@ told_mark b own U ps H τ s j = record {
   notes = j.notes;
   heard = j.heard;
   known = all_map (λ p. is_given p.serial τ.given ≡ true) (marked s) ps j.known;
-  count = omega (arith, j.count, length-map (marked s) ps);
+  count = omega (arith, j.count, length-map ps (marked s));
   good = j.good;
   served = j.served;
   once = j.once;
-  limit = omega (arith, j.limit, length-map (marked s) ps);
+  limit = omega (arith, j.limit, length-map ps (marked s));
 }
 
 -- arrive
@@ -233,9 +234,9 @@ module _ (b : Book) (law : Lawful b) (own : List OwnRow) (U : ℕ) (ps : List Pr
         notes = j.notes;
         heard = all_push (λ g. g.serial ≤ s) τ.given _ (all_weaker (λ g h. omega arith) τ.given j.heard) (omega arith);
         known = all_push (λ p. is_given p.serial (give k s τ σ (Some n)).given ≡ true) ps (new_promise s t c k) (all_weaker (λ p h. given_left p.serial τ.given _ h) ps j.known) (given_new s τ.given _ refl);
-        count = omega (arith, j.count, length_push τ.given (record { serial = s; class = n.class; permission = k; ahead = τ.promises; between = τ.between; facing = σ.promises; meeting = σ.between }), length_push ps (new_promise s t c k));
+        count = omega (arith, j.count, length-append τ.given ((record { serial = s; class = n.class; permission = k; ahead = τ.promises; between = τ.between; facing = σ.promises; meeting = σ.between }) ∷ []), length-append ps ((new_promise s t c k) ∷ []));
         good = all_push (RightlyGiven b) τ.given _ j.good (record { no_facing = one; no_meeting = two; fit = fit k n m.1 ok });
         served = j.served;
         once = j.once;
-        limit = omega (arith, fits k ok, length_push ps (new_promise s t c k));
+        limit = omega (arith, fits k ok, length-append ps ((new_promise s t c k) ∷ []));
       }

@@ -108,14 +108,6 @@ each_length R [] (b ∷ ys) e = absurd e
 each_length R (a ∷ xs) [] e = absurd e
 each_length R (a ∷ xs) (b ∷ ys) e = ap suc (each_length R xs ys e.1)
 
-pub length_push : {X : Type 0} (xs : List X) (y : X) → length (xs ++ (y ∷ [])) ≡ suc (length xs)
-length_push [] y = refl
-length_push (x ∷ xs) y = ap suc (length_push xs y)
-
-pub length-map : {X Y : Type 0} (f : X → Y) (xs : List X) → length (map f xs) ≡ length xs
-length-map f [] = refl
-length-map f (x ∷ xs) = ap suc (length-map f xs)
-
 pub keeping_none : {X : Type 0} (t : X → Bool) (xs : List X) → All (λ x. t x ≡ true → ⊥) xs → keeping t xs ≡ []
 keeping_none t [] a = refl
 keeping_none t (x ∷ xs) a = test (t x) (x ∷ keeping t xs) (keeping t xs) (λ l. l ≡ []) (λ e. absurd (a.0 e)) (λ e. keeping_none t xs a.1)

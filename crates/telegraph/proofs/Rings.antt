@@ -49,7 +49,7 @@ module _ (bs new : List ℕ) (p c : ℕ) (inside : p < places bs) (space : c < p
   fits : slip_length * place (places bs) p c + slip_length ≤ length bs
   fits = let below = place_below (places bs) p c inside (omega arith) in omega arith
 
-  pub same_length : length after ≡ length bs
+  same_length : length after ≡ length bs
   same_length = length-paste bs (slip_length * place (places bs) p c) new slip_length fits (omega arith)
 
   other : (k : ℕ) → k < c → slip_bytes_lem after (place (places bs) p k) ≡ slip_bytes_lem bs (place (places bs) p k)

@@ -1,7 +1,8 @@
 -- The first line of some bytes, and the lines after it.
 use Rattle.std.proofs.Common.{◌≡◌, ℕ, ◌+◌, ◌<◌, Bool, List, [], ◌∷◌, length, take, drop, None, Some, Option, position, unwrap_or, refl, ap, arith, length-drop}
 use Rattle.lines.specs.Cuts.{span}
-use Rattle.lines.specs.Lines.{TakesLine, lines_of}
+use Rattle.lines.specs.Lines.{TakesLine, lines_of, rest_of}
+use Rattle.lines.specs.declared.Lines.{Lines}
 use Rattle.std.proofs.lemmas.Grind.{common_steps}
 use Rattle.std.proofs.lemmas.List.Sums.{prefix_len-le-length}
 use Rattle.std.proofs.lemmas.List.{length-take}
@@ -29,6 +30,6 @@ takes_line (b ∷ bs) l t some line rest = record {
 }
 
 -- and fewer bytes are left
-pub fewer_left : (s : List ℕ) (r : Option (Bor (List ℕ))) (t : List ℕ) → TakesLine s r t → MakesProgress (λ _. Unit {0}) (λ bs. at_most (length bs)) s r t
+pub fewer_left : (s : Lines) (r : Option (Bor (List ℕ))) (t : Lines) → TakesLine (rest_of s) r (rest_of t) → MakesProgress (λ _. Unit {0}) (λ l. at_most (length (rest_of l))) s r t
 fewer_left s None t h = record { on = λ _. tt; keeps = tt; rests = λ _. tt }
 fewer_left s (Some l) t h = record { on = λ _. (tt, tt, h.less refl); keeps = tt; rests = λ _. tt }

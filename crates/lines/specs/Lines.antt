@@ -3,6 +3,7 @@ use Rattle.std.specs.Prelude.{◌≡◌, ℕ, ◌+◌, ◌<◌, ◌≤◌, true,
 use Rattle.std.specs.Borrow.{Bor}
 use Rattle.std.specs.List.{onto_first}
 use Rattle.lines.specs.Cuts.{span}
+use Rattle.lines.specs.declared.Lines.{Lines}
 
 -- a line feed, 10, ends a line, and the last line may lack it
 abbrev pub lines_of : List ℕ → List (List ℕ)
@@ -20,3 +21,7 @@ pub record TakesLine (s : List ℕ) (r : Option (Bor (List ℕ))) (t : List ℕ)
   pub all : MatchOption r (s ≡ []) (λ l. lines_of s ≡ l.now ∷ lines_of t)
   pub less : is_some r ≡ true → length t < length s
   pub short : IfSome r (λ l. length l.now ≤ length s)
+
+-- what is left of an input
+abbrev pub rest_of : Lines → List ℕ
+rest_of l = l.rest.now

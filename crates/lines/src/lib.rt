@@ -4,9 +4,7 @@
 ghost use Rattle.std.specs.Prelude.{◌≡◌, ◌≤◌, length};
 ghost use Rattle.std.specs.Iterator.{at_most};
 ghost use Rattle.lines.specs.Cuts.{span};
-ghost use Rattle.lines.specs.Lines.{TakesLine};
-
-use std::marker::Model;
+ghost use Rattle.lines.specs.Lines.{TakesLine, rest_of};
 
 // How many bytes stand before the first mark, or all where there is none.
 pub fn before(text: &[u8], mark: u8) -> usize
@@ -16,23 +14,15 @@ pub fn before(text: &[u8], mark: u8) -> usize
     text.iter().position(|b| *b == mark).unwrap_or(text.len())
 }
 
-// The lines of an input one after the other, each without its line feed. A clause sees the bytes that are left.
-#[derive(Clone, Drop)]
+// The lines of an input one after the other, each without its line feed. It has no model, since it is `Copy` and lent bytes have a lifetime.
+#[derive(Clone, Copy)]
 pub struct Lines<'a> {
     rest: &'a [u8],
 }
 
-impl<'a> Model for Lines<'a> {
-    ghost use Rattle.std.specs.Prelude.{ℕ, List};
-
-    ghost Value = { List ℕ };
-
-    ghost view = { λ l. l.rest.now };
-}
-
 impl<'a> Lines<'a> {
     pub fn new(input: &'a [u8]) -> Lines<'a>
-        ensures { result ≡ input.now }
+        ensures { rest_of result ≡ input.now }
     {
         Lines { rest: input }
     }
@@ -41,10 +31,10 @@ impl<'a> Lines<'a> {
 impl<'a> Iterator for Lines<'a> {
     type Item = &'a [u8];
 
-    ghost next_gives = { TakesLine };
+    ghost next_gives = { λ s line t. TakesLine (rest_of s) line (rest_of t) };
 
     // each line has a byte at least, if only its line feed
-    ghost remaining = { λ s. at_most (length s) };
+    ghost remaining = { λ s. at_most (length (rest_of s)) };
 
     fn next(&mut self) -> Option<&'a [u8]> {
         let text = self.rest;

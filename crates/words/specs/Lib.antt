@@ -1,3 +1,4 @@
+pub mod Room
 pub mod Words
 pub mod Parted
 pub mod Spelling

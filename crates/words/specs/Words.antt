@@ -1,7 +1,9 @@
 -- The words of a line, parted by one space, each with its column.
 use Rattle.std.specs.Prelude.{ℕ, ◌+◌, cond, List, length, take, drop, Some, None, Option, nat_lt}
 use Rattle.lines.specs.Cuts.{span}
+use Rattle.std.specs.Option.{option_map}
 use Rattle.words.specs.declared.cut.Word.{Word}
+use Rattle.words.specs.declared.cut.Words.{Words}
 
 -- A word: its bytes, and the column of the first of them, from 1.
 pub record Piece : Type 0 where
@@ -14,13 +16,11 @@ pub record Left : Type 0 where
   pub rest : Option (List ℕ)
   pub column : ℕ
 
--- how many columns are left of a line, the one past its end too: no more words than this can come
-abbrev pub room : Option (List ℕ) → ℕ
-room None = 0
-room (Some bytes) = length bytes + 1
-
 abbrev pub piece_of : Word → Piece
 piece_of w = record { text = w.text.now; column = w.column }
+
+abbrev pub left_of : Words → Left
+left_of w = record { rest = option_map (λ r. r.now) w.rest; column = w.column }
 
 -- bytes that stand at a column, with a word to come
 abbrev pub at : ℕ → List ℕ → Left

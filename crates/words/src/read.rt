@@ -3,6 +3,7 @@ ghost use Rattle.words.specs.Parted.{Parted};
 ghost use Rattle.words.specs.Reading.{argued, ask_at, command_of, end_reached, field, unreadable_at};
 ghost use Rattle.words.specs.Worked.{Worked};
 ghost use Rattle.words.specs.Written.{ReadsWritten};
+ghost use Rattle.words.specs.Words.{left_of};
 ghost use Rattle.std.specs.Prelude.{◌≡◌};
 
 use crate::command::{Command, Name};
@@ -20,7 +21,7 @@ fn unreadable(column: usize) -> Fault
 impl<'a> Words<'a> {
     // What the next word says, which has to be there and to say something of this type.
     fn field<T: Spelled>(&mut self) -> Result<T, Fault>
-        ensures { (result, self.new) ≡ field T.said self.old }
+        ensures { (result, left_of self.new) ≡ field T.said (left_of self.old) }
     {
         let word = self.next().ok_or(unreadable(self.column()))?;
         T::spelled(word.text).ok_or(unreadable(word.column))
@@ -28,7 +29,7 @@ impl<'a> Words<'a> {
 
     // Asking takes a class, as no other call does.
     fn ask(&mut self) -> Result<Command, Fault>
-        ensures { (result, self.new) ≡ ask_at self.old }
+        ensures { (result, left_of self.new) ≡ ask_at (left_of self.old) }
     {
         Ok(Command::Ask {
             block: self.field()?,
@@ -40,7 +41,7 @@ impl<'a> Words<'a> {
 
     // The call of this name, with the arguments that it takes.
     fn command(&mut self, name: Name) -> Result<Command, Fault>
-        ensures { (result, self.new) ≡ argued name self.old }
+        ensures { (result, left_of self.new) ≡ argued name (left_of self.old) }
     {
         Ok(match name {
             Name::Ask => self.ask()?,
@@ -78,7 +79,7 @@ impl<'a> Words<'a> {
 
     // A word after the last argument is out of place, even an empty one.
     fn nothing_more(&mut self) -> Result<(), Fault>
-        ensures { (result, self.new) ≡ end_reached self.old }
+        ensures { (result, left_of self.new) ≡ end_reached (left_of self.old) }
     {
         match self.next() {
             Some(word) => Err(unreadable(word.column)),

@@ -23,11 +23,11 @@ pub struct Station {
 // Clauses see what the rules say that an end keeps. Neither list grows beyond four rows, and each has memory for four.
 impl Model for Station {
     ghost use Rattle.rules.specs.Ends.{Kept};
-    ghost use Rattle.std.specs.Prelude.{◌≤◌, vec_len, vec_capacity};
+    ghost use Rattle.std.specs.Prelude.{◌≡◌, ◌≤◌, vec_len, vec_capacity};
 
     ghost Value = { Kept };
 
     ghost view = { λ s. record { own = s.own.items; promised = s.promised.items; used = s.used; heard = s.heard; signal = s.signal } };
 
-    ghost invariant = { λ s. (vec_len s.own ≤ 4) × (4 ≤ vec_capacity s.own) × (vec_len s.promised ≤ 4) × (4 ≤ vec_capacity s.promised) };
+    ghost invariant = { λ s. (vec_len s.own ≤ 4) × (vec_capacity s.own ≡ 4) × (vec_len s.promised ≤ 4) × (vec_capacity s.promised ≡ 4) };
 }

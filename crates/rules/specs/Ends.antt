@@ -74,6 +74,6 @@ own_in serial r = r.serial == serial && is_in_lem r.state
 abbrev pub promise_of : ℕ → PromisedRow → Bool
 promise_of serial p = p.serial == serial
 
--- a station turns a call away: layer 2, and which end it is
+-- a station turns a call away for one of its causes, which are of layer 2, and says which end it is
 abbrev pub station_fault : Cause → ℕ → Fault
 station_fault cause place = record { cause = cause; place = place }

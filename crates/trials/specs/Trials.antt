@@ -8,6 +8,7 @@ use Rattle.rules.specs.Runs.{Event, MadeSilent, Run}
 use Rattle.rules.specs.Tally.{Entry, empty, tally}
 use Rattle.rules.specs.declared.calls.Call.{Call}
 use Rattle.slip.specs.Bytes.{encode, worked_slip}
+use Rattle.slip.specs.Causes.{fault_layer, fault_number}
 use Rattle.slip.specs.declared.fault.Cause.{Cause}
 use Rattle.slip.specs.declared.fault.Fault.{Fault}
 use Rattle.slip.specs.declared.paper.Message.{Message}
@@ -89,6 +90,10 @@ asks_behind train class = ask 0 train class ∷ deliver ∷ deliver ∷ []
 abbrev pub refused : ℕ → List (Result ℕ Fault)
 refused serial = Ok serial ∷ Ok 12 ∷ Ok 41 ∷ []
 
+-- a refusal as a report prints it: number, layer and place
+abbrev pub printed : Fault → ℕ × ℕ × ℕ
+printed f = (fault_number f, fault_layer f, f.place)
+
 pub record Trials : Type 0 where
   pub train_9999 : heard_on (ask 0 9999 F ∷ []) ≡ Ok 1 ∷ []
   pub train_10000 : heard_on (ask 0 10000 F ∷ []) ≡ Err (bad_argument 3) ∷ []
@@ -119,6 +124,9 @@ pub record Trials : Type 0 where
   pub form_nowhere : written_form 2 0 (day []).after ≡ Err (bad_argument 1)
   pub form_presented : heard_on (ask 0 12 F ∷ deliver ∷ deliver ∷ enter 0 12 ∷ present 0 2 12 ∷ present 0 1 12 ∷ []) ≡
       Ok 1 ∷ Ok 12 ∷ Ok 21 ∷ Err (station_fault Cause.SignalAtStop 0) ∷ Err (station_fault Cause.OtherTrain 0) ∷ Ok 1 ∷ []
+  -- the refusals that these meet
+  pub refusals : map printed (bad_argument 3 ∷ full_wire 0 ∷ full_wire 1 ∷ station_fault Cause.SerialsUsedUp 0 ∷ station_fault Cause.NoSuchRow 1 ∷ bad_argument 1 ∷ station_fault Cause.SignalAtStop 0 ∷ station_fault Cause.OtherTrain 0 ∷ []) ≡
+      (1, 1, 3) ∷ (11, 3, 0) ∷ (11, 3, 1) ∷ (6, 2, 0) ∷ (7, 2, 1) ∷ (1, 1, 1) ∷ (9, 2, 0) ∷ (8, 2, 0) ∷ []
 
 -- the thirteen readable lines of the worked sheet
 abbrev pub sheet_lines : List Turn
@@ -132,6 +140,7 @@ pub record Sheet : Type 0 where
   pub run : Run (in_turn class_book) MadeSilent (day sheet_lines).events (day sheet_lines).after
   pub answers : heard_on sheet_lines ≡
       Ok 1 ∷ Ok 12 ∷ Ok 21 ∷ Ok 1 ∷ Ok 1 ∷ Ok 2 ∷ Ok 51 ∷ Ok 12 ∷ Ok 41 ∷ Ok 1 ∷ Ok 61 ∷ Err (station_fault Cause.NoSuchRow 1) ∷ Err nothing_waits ∷ []
+  pub refusals : map printed (station_fault Cause.NoSuchRow 1 ∷ nothing_waits ∷ []) ≡ (7, 2, 1) ∷ (12, 3, 0) ∷ []
   -- what an onlooker counted of trains from west to east: one permission, one entry that spent it, one arrival
   pub given : length (tally empty (day sheet_lines).events 0).leaving.given ≡ 1
   pub entries : map choices_of (tally empty (day sheet_lines).events 0).leaving.entries ≡ (1 ∷ []) ∷ []

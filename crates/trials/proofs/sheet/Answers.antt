@@ -9,6 +9,7 @@ pub returns : goal.returns
 returns c = record {
   run = plays_in_turn class_book (two_blocks 64 0) sheet_lines (refl, (refl, (refl, (refl, (refl, (refl, (refl, (refl, (refl, (refl, (refl, (refl, (refl, tt))))))))))))) (made 64 0);
   answers = refl;
+  refusals = refl;
   given = refl;
   entries = refl;
   arrivals = refl;

@@ -25,4 +25,5 @@ returns c = record {
   form_unheld = refl;
   form_nowhere = refl;
   form_presented = refl;
+  refusals = refl;
 }

@@ -7,16 +7,21 @@ use Rattle.std.proofs.lemmas.Grind.{common_steps}
 use Rattle.std.proofs.lemmas.List.Elements.{Decides-contains}
 use Rattle.std.specs.List.{All, Contains, list_all, list_any}
 
-same : (one other : Slip) → Decides (ghosts.eq one other) (one ≡ other)
-same one other = grind (arith, common_steps)
+-- by the derived `==`
+pub same_as : Slip → Slip → Bool
+same_as slip other = ghosts.eq other slip
 
-abbrev pub is_among : List Slip → Slip → Bool
-is_among others slip = list_any (λ other. ghosts.eq other slip) others
+pub same : (slip other : Slip) → Decides (same_as slip other) (other ≡ slip)
+unfolding same_as
+same slip other = grind (arith, common_steps)
 
-among : (others : List Slip) (slip : Slip) → Decides (is_among others slip) (Contains others slip)
+abbrev pub among_these : List Slip → Slip → Bool
+among_these others slip = list_any (same_as slip) others
+
+pub among : (others : List Slip) (slip : Slip) → Decides (among_these others slip) (Contains others slip)
 among others slip =
-    Decides-contains others slip (is_among others slip)
-    (Decides-by_or (λ other. ghosts.eq other slip) (λ other. other ≡ slip) (list_any (λ other. ghosts.eq other slip)) (λ other. same other slip) refl (λ _ _. refl) others)
+    Decides-contains others slip (among_these others slip)
+    (Decides-by_or (same_as slip) (λ other. other ≡ slip) (list_any (same_as slip)) (same slip) refl (λ _ _. refl) others)
 
-pub all_among : (slips others : List Slip) → Decides (list_all (is_among others) slips) (All (Contains others) slips)
-all_among slips others = Decides-by_and (is_among others) (Contains others) (list_all (is_among others)) (among others) refl (λ _ _. refl) slips
+pub all_among : (slips others : List Slip) → Decides (list_all (among_these others) slips) (All (Contains others) slips)
+all_among slips others = Decides-by_and (among_these others) (Contains others) (list_all (among_these others)) (among others) refl (λ _ _. refl) slips

@@ -2,17 +2,31 @@
 ghost use Rattle.passage.specs.Reports.{TakenAll};
 ghost use Rattle.passage.specs.Takes.{AsWritten};
 ghost use Rattle.std.specs.List.{All, Contains};
-ghost use Rattle.std.specs.Prelude.{Decides, IfOk, string_bytes};
+ghost use Rattle.std.specs.Prelude.{◌≡◌, Decides, IfOk, string_bytes};
 
 use slip::Slip;
 use std::alloc::{AllocError, Global};
 use wire::Wire;
 
+// Whether two slips say the same.
+fn is_same(one: &Slip, other: &Slip) -> bool
+    ensures { Decides result (one.now ≡ other.now) }
+{
+    one == other
+}
+
+// Whether a slip is one of some others.
+fn is_among(others: &[Slip], slip: &Slip) -> bool
+    ensures { Decides result (Contains others.now slip.now) }
+{
+    others.iter().any(|other| is_same(other, slip))
+}
+
 // Whether each of some slips is among others.
 fn are_among(slips: &[Slip], others: &[Slip]) -> bool
     ensures { Decides result (All (Contains others.now) slips.now) }
 {
-    slips.iter().all(|slip| others.contains(slip))
+    slips.iter().all(|slip| is_among(others, slip))
 }
 
 // Whether each slip came as it was written: none came that was not sent, and none that was sent is missing.

@@ -1,5 +1,5 @@
 -- What writing to a ring and going round it leave.
-use Rattle.std.proofs.Common.{◌≡◌, ℕ, suc, ◌+◌, ◌-◌, ◌*◌, ◌^◌, ◌<◌, ◌≤◌, true, ◌≢◌, List, [], ◌∷◌, ◌++◌, map, length, take, drop, is_ok, Some, Ok, sym, refl, ap, ◌∙◌, subst, inl, inr, arith, rules, below_more}
+use Rattle.std.proofs.Common.{◌≡◌, ℕ, suc, ◌+◌, ◌-◌, ◌*◌, ◌^◌, ◌<◌, ◌≤◌, true, ◌≢◌, List, [], ◌∷◌, ◌++◌, map, length, take, drop, is_ok, Some, None, Ok, sym, refl, ap, ◌∙◌, subst, inl, inr, arith, rules, below_more}
 use Rattle.slip.proofs.Trips.{reads_back}
 use Rattle.slip.specs.Bytes.{decode, encode, slip_length}
 use Rattle.slip.specs.Form.{InForm}
@@ -100,3 +100,8 @@ module _ (bs : List ℕ) (p c : ℕ) (inside : p < places bs) (some : 0 < c) (fe
       rest =
           sym (same_counted (λ k. slip_at bs (place (places bs) p k)) (λ k. slip_at bs (place (places bs) (place (places bs) p 1) k)) 1 (c - 1) s
           (λ k x. let up : 1 + k ≡ k + 1 = omega arith in ap (λ (j : ℕ). slip_at bs (place (places bs) p j)) up ∙ ap (slip_at bs) (sym (place_next (places bs) p k inside (omega arith)))))
+
+-- an empty ring has none to take
+pub ring_empty : (xs : List Slip) → length xs ≡ 0 → OldestFirst xs None xs
+ring_empty [] h = (refl, refl)
+ring_empty (x ∷ xs) h = absurd (omega arith)

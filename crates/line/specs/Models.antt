@@ -1,5 +1,5 @@
 -- A line as the rules speak of it.
-use Rattle.std.specs.Prelude.{ℕ, List, Ok, Err, Result}
+use Rattle.std.specs.Prelude.{ℕ, List, map, Ok, Err, Result}
 use Rattle.form.specs.declared.Written.{Written}
 use Rattle.line.specs.declared.line.Line.{Line}
 use Rattle.book.specs.declared.RuleBook.{Ghosts as BookGhosts}
@@ -12,11 +12,12 @@ use Rattle.rules.specs.declared.answers.Sent.{Sent}
 use Rattle.rules.specs.declared.rows.Permission.{Permission}
 use Rattle.slip.specs.declared.fault.Fault.{Fault}
 use Rattle.slip.specs.declared.paper.SlipKind.{SlipKind}
+use Rattle.station.specs.Records.{kept}
 use Rattle.wire.specs.declared.Wire.{Ghosts as WireGhosts}
 
 -- what its ends keep
 abbrev pub ends_of : {W B : Type 0} {w : WireGhosts W} {b : BookGhosts B} → Line W B w b → List Kept
-ends_of l = l.ends.items
+ends_of l = map kept l.ends.items
 
 -- its ends, and what waits on its wire, by what such a wire means
 abbrev pub model : {W B : Type 0} {w : WireGhosts W} {b : BookGhosts B} → Line W B w b → Model

@@ -16,11 +16,12 @@ pub struct Ends {
 // Clauses see what the ends keep. No line has more than 15 blocks.
 impl Model for Ends {
     ghost use Rattle.rules.specs.Ends.{Kept};
-    ghost use Rattle.std.specs.Prelude.{◌≤◌, List, vec_len};
+    ghost use Rattle.station.specs.Records.{kept};
+    ghost use Rattle.std.specs.Prelude.{◌≤◌, List, map, vec_len};
 
     ghost Value = { List Kept };
 
-    ghost view = { λ e. e.stations.items };
+    ghost view = { λ e. map kept e.stations.items };
 
     ghost invariant = { λ e. vec_len e.stations ≤ 30 };
 }

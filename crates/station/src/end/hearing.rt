@@ -3,6 +3,7 @@ ghost use Rattle.std.specs.Prelude.{◌≡◌, ◌<◌, true, map, length};
 ghost use Rattle.rules.specs.Ends.{own_in, promise_of, with_promised};
 ghost use Rattle.rules.specs.Hearing.{admitted, against_own, hears, marked, out_of, promising, reported_of, wanted_of, withdraw_heard};
 ghost use Rattle.rules.specs.Lists.{find};
+ghost use Rattle.station.specs.Records.{kept};
 
 use super::{Asking, Station};
 use book::RuleBook;
@@ -12,8 +13,8 @@ use slip::{Class, Message};
 impl Station {
     // Promises the block to a train, and gives it.
     fn promise(&mut self, asking: Asking, permission: Permission) -> Heard
-        requires { length self.old.promised < 4 }
-        ensures { (result, self.new) ≡ promising asking.serial asking.train asking.class permission self.old }
+        requires { length (kept self.old).promised < 4 }
+        ensures { (result, kept self.new) ≡ promising asking.serial asking.train asking.class permission (kept self.old) }
     {
         self.promised
             .push_reserved(asking.into_promised_row(permission));
@@ -24,8 +25,8 @@ impl Station {
     // Whether the book lets a train in behind the promised ones; at its limit the block is full, and it need not be asked.
     #[tactic(auto, using(crate::proofs::Rows::how_many_few))]
     fn may_follow<B: RuleBook>(&self, book: &B, class: Class) -> bool
-        ensures value { result ≡ admitted B.book class self.now.promised }
-        ensures space { result ≡ true → length self.now.promised < 4 }
+        ensures value { result ≡ admitted B.book class (kept self.now).promised }
+        ensures space { result ≡ true → length (kept self.now).promised < 4 }
     {
         let ahead = self.promised.len();
         if ahead >= usize::from(B::LIMIT) {
@@ -37,7 +38,7 @@ impl Station {
 
     // A WANTED that was not heard before.
     fn hear_new<B: RuleBook>(&mut self, book: &B, asking: Asking) -> Heard
-        ensures { (result, self.new) ≡ against_own B.book asking.serial asking.train asking.class self.old self.old.own }
+        ensures { (result, kept self.new) ≡ against_own B.book asking.serial asking.train asking.class (kept self.old) (kept self.old).own }
     {
         if self.own.is_empty() && self.promised.is_empty() {
             return self.promise(asking, Permission::Clear);
@@ -50,7 +51,7 @@ impl Station {
     }
 
     fn hear_wanted<B: RuleBook>(&mut self, book: &B, asking: Asking) -> Heard
-        ensures { (result, self.new) ≡ wanted_of B.book asking.serial asking.train asking.class self.old (find (promise_of asking.serial) self.old.promised) }
+        ensures { (result, kept self.new) ≡ wanted_of B.book asking.serial asking.train asking.class (kept self.old) (find (promise_of asking.serial) (kept self.old).promised) }
     {
         if let Some(row) = self.promised_row(asking.serial) {
             return Heard::Reply(row.permission.into());
@@ -63,7 +64,7 @@ impl Station {
 
     // Marks the promised row of this serial: its train's entry was reported.
     fn mark(&mut self, serial: u32)
-        ensures { self.new ≡ with_promised self.old (map (marked serial) self.old.promised) self.old.heard }
+        ensures { kept self.new ≡ with_promised (kept self.old) (map (marked serial) (kept self.old).promised) (kept self.old).heard }
     {
         for row in self.promised.iter_mut() {
             if row.serial == serial {
@@ -73,7 +74,7 @@ impl Station {
     }
 
     fn hear_entered(&mut self, serial: u32) -> Heard
-        ensures { (result, self.new) ≡ reported_of serial self.old (find (promise_of serial) self.old.promised) }
+        ensures { (result, kept self.new) ≡ reported_of serial (kept self.old) (find (promise_of serial) (kept self.old).promised) }
     {
         if self.promised_row(serial).is_none() {
             return Heard::Reply(Message::Out);
@@ -83,7 +84,7 @@ impl Station {
     }
 
     fn hear_withdraw(&mut self, serial: u32) -> Heard
-        ensures { (result, self.new) ≡ withdraw_heard serial self.old }
+        ensures { (result, kept self.new) ≡ withdraw_heard serial (kept self.old) }
     {
         self.heard = self.heard.max(serial);
         if let Some(i) = self.place_promised(serial) {
@@ -93,7 +94,7 @@ impl Station {
     }
 
     fn hear_out(&mut self, serial: u32) -> Heard
-        ensures { (result, self.new) ≡ out_of serial self.old (find (own_in serial) self.old.own) }
+        ensures { (result, kept self.new) ≡ out_of serial (kept self.old) (find (own_in serial) (kept self.old).own) }
     {
         let Some(i) = self.place_in(serial) else {
             return Heard::Ignored;
@@ -104,7 +105,7 @@ impl Station {
 
     // Hears what a slip says: what becomes of it, and what is kept then.
     pub fn hear<B: RuleBook>(&mut self, book: &B, word: Word) -> Heard
-        ensures { (result, self.new) ≡ hears B.book word.serial word.message self.old }
+        ensures { (result, kept self.new) ≡ hears B.book word.serial word.message (kept self.old) }
     {
         let Word { message, serial } = word;
         match message {

@@ -1,9 +1,9 @@
 // What the operators' calls do at an end: each method equals its rule, in answer and record together.
-// Each is told its place, which its refusals name. That a refusal leaves the record as it was follows from the rule, and is said beside it for
-// the reader: a fact of a call and not of a record, so that no type holds it.
+// Each is told its place, which its refusals name. That a refusal leaves the whole record as it was is said beside the rule, which speaks of
+// rows, serials and signal: not even the memory of the lists is another.
 ghost use Rattle.rules.specs.Ends.{idle};
 ghost use Rattle.rules.specs.Moves.{arrived, entered, go_in_lem, held as held_row, next_serial_lem, presented, repeated, shown, withdrawn};
-ghost use Rattle.station.specs.Records.{asking_noted};
+ghost use Rattle.station.specs.Records.{asking_noted, kept};
 ghost use Rattle.std.specs.Prelude.{◌≡◌, ◌<◌, ◌≤◌, true, false, is_some, is_ok, IfOk, length};
 
 use super::{Asking, Station};
@@ -17,7 +17,7 @@ const MOST: usize = 4;
 impl Station {
     // An end with no rows, its signal at Stop, and memory for all the rows that it may come to have.
     pub fn new(heap: Global, start: u32) -> Result<Station, AllocError>
-        ensures { IfOk result (λ s. s ≡ idle start) }
+        ensures { IfOk result (λ s. kept s ≡ idle start) }
     {
         let own = Vec::with_capacity(heap, MOST)?;
         let promised = Vec::with_capacity(heap, MOST)?;
@@ -32,8 +32,8 @@ impl Station {
 
     // The serial of a new asking for a train, or why there is none.
     pub fn next_serial(&self, place: u32, train: Train) -> Result<u32, Fault>
-        ensures value { result ≡ next_serial_lem place train self.now }
-        ensures few { (length self.now.own ≤ 4) × (length self.now.promised ≤ 4) }
+        ensures value { result ≡ next_serial_lem place train (kept self.now) }
+        ensures few { (length (kept self.now).own ≤ 4) × (length (kept self.now).promised ≤ 4) }
     {
         if !self.promised.is_empty() {
             return Err(Cause::HasPromised.at(place));
@@ -55,7 +55,7 @@ impl Station {
 
     // Notes a new asking; none, and nothing noted, where there is no place for its row (any caller may ask, so that it cannot be required).
     pub fn note_asking(&mut self, asking: Asking) -> Option<()>
-        ensures { (result, self.new) ≡ asking_noted asking self.old }
+        ensures { (result, kept self.new) ≡ asking_noted asking (kept self.old) }
     {
         if self.own.len() >= MOST {
             return None;
@@ -67,7 +67,7 @@ impl Station {
 
     // Takes the newest asking back.
     pub fn withdraw(&mut self, place: u32) -> Result<Word, Fault>
-        ensures value { (result, self.new) ≡ withdrawn place self.old }
+        ensures value { (result, kept self.new) ≡ withdrawn place (kept self.old) }
         ensures refused { is_ok result ≡ false → self.new ≡ self.old }
     {
         let Some(row) = self.newest_row() else {
@@ -88,8 +88,8 @@ impl Station {
 
     // The Held row, if there is one.
     pub fn held(&self) -> Option<HeldRow>
-        ensures value { result ≡ held_row self.now }
-        ensures some { is_some result ≡ true → 0 < length self.now.own }
+        ensures value { result ≡ held_row (kept self.now) }
+        ensures some { is_some result ≡ true → 0 < length (kept self.now).own }
     {
         let row = self.newest_row()?;
         match row.state {
@@ -100,7 +100,7 @@ impl Station {
 
     // Shows at the signal what is held.
     pub fn show(&mut self, place: u32) -> Result<Permission, Fault>
-        ensures value { (result, self.new) ≡ shown place self.old }
+        ensures value { (result, kept self.new) ≡ shown place (kept self.old) }
         ensures refused { is_ok result ≡ false → self.new ≡ self.old }
     {
         let held = self.held().ok_or(Cause::NoSuchRow.at(place))?;
@@ -110,7 +110,7 @@ impl Station {
 
     // The Held row's train goes in.
     fn go_in(&mut self, held: HeldRow) -> Word
-        ensures { (Ok result, self.new) ≡ go_in_lem self.old held }
+        ensures { (Ok result, kept self.new) ≡ go_in_lem (kept self.old) held }
     {
         self.renew(held.row, RowState::In(held.permission));
         self.signal = None; // behind the train
@@ -122,7 +122,7 @@ impl Station {
 
     // Reports that a train has passed the signal.
     pub fn enter(&mut self, place: u32, train: Train) -> Result<Word, Fault>
-        ensures value { (result, self.new) ≡ entered place train self.old }
+        ensures value { (result, kept self.new) ≡ entered place train (kept self.old) }
         ensures refused { is_ok result ≡ false → self.new ≡ self.old }
     {
         let held = self.held().ok_or(Cause::NoSuchRow.at(place))?;
@@ -137,7 +137,7 @@ impl Station {
 
     // Lets a train pass the signal at Stop, by a form of this serial and train, which stand on it as two numbers.
     pub fn present(&mut self, place: u32, serial: u32, train: Train) -> Result<Word, Fault>
-        ensures value { (result, self.new) ≡ presented place serial train self.old }
+        ensures value { (result, kept self.new) ≡ presented place serial train (kept self.old) }
         ensures refused { is_ok result ≡ false → self.new ≡ self.old }
     {
         let held = self.held().ok_or(Cause::NoSuchRow.at(place))?;
@@ -149,7 +149,7 @@ impl Station {
 
     // Ends the oldest promise, whose train has arrived.
     pub fn arrive(&mut self, place: u32, train: Train) -> Result<Word, Fault>
-        ensures value { (result, self.new) ≡ arrived place train self.old }
+        ensures value { (result, kept self.new) ≡ arrived place train (kept self.old) }
         ensures refused { is_ok result ≡ false → self.new ≡ self.old }
     {
         let Some(oldest) = self.promised.first().copied() else {
@@ -170,7 +170,7 @@ impl Station {
 
     // What the train's own row stands for, to be said again.
     pub fn repeat(&self, place: u32, train: Train) -> Result<Word, Fault>
-        ensures { result ≡ repeated place train self.now }
+        ensures { result ≡ repeated place train (kept self.now) }
     {
         let row = self.row_of(train).ok_or(Cause::NoSuchRow.at(place))?;
         let message = match row.state {

@@ -7,5 +7,5 @@ use Rattle.station.proofs.end.Station.passengers_ahead.Goals as goal
 
 pub returns : goal.returns
 returns c =
-    rw (← c.self.view_is) (counted_out counted _ _
-    (count_from_yields_List c.filter.result _ c.count.ensures.ran (YieldsList-from_filter _ counted (YieldsList-from_slice c.self.inside.promised.items cc) c.filter.ensures.closure (λ x r q k. search (rules, tests)))))
+    (counted_out counted _ _
+    (count_from_yields_List c.filter.result _ c.count.ensures.ran (YieldsList-from_filter _ counted (YieldsList-from_slice c.args.self.now.promised.items cc) c.filter.ensures.closure (λ x r q k. search (rules, tests)))))

@@ -7,5 +7,5 @@ use Rattle.station.proofs.end.Station.place_in.Goals as goal
 
 pub returns : goal.returns
 returns c =
-    rw (← c.self.view_is) (placed (own_in c.args.serial) _ _
-    (position_from_yields_List (own_in c.args.serial) _ _ c.position.result c.position.ensures.ran (YieldsList-from_slice c.self.inside.own.items cc) (λ x b q k. search (rules, tests))))
+    (placed (own_in c.args.serial) _ _
+    (position_from_yields_List (own_in c.args.serial) _ _ c.position.result c.position.ensures.ran (YieldsList-from_slice c.args.self.now.own.items cc) (λ x b q k. search (rules, tests))))

@@ -7,5 +7,5 @@ use Rattle.station.proofs.end.Station.place_promised.Goals as goal
 
 pub returns : goal.returns
 returns c =
-    rw (← c.self.view_is) (placed (promise_of c.args.serial) _ _
-    (position_from_yields_List (promise_of c.args.serial) _ _ c.position.result c.position.ensures.ran (YieldsList-from_slice c.self.inside.promised.items cc) (λ x b q k. search (rules, tests))))
+    (placed (promise_of c.args.serial) _ _
+    (position_from_yields_List (promise_of c.args.serial) _ _ c.position.result c.position.ensures.ran (YieldsList-from_slice c.args.self.now.promised.items cc) (λ x b q k. search (rules, tests))))
